@@ -1,0 +1,22 @@
+use Rattle.std.proofs.Common.{◌++◌, take, drop, ap, sym, ◌∙◌, arith, append_assoc}
+use Rattle.std.proofs.lemmas.Grind.{common_steps}
+use Rattle.std.proofs.lemmas.List.{take_rest}
+use Rattle.srv_edge.proofs.Filling.{take_further}
+use Rattle.srv_edge.proofs.sink.give_all.Goals as goal
+
+pub loop-sent-preserved : goal.loop-sent-preserved
+loop-sent-preserved g c =
+    let sent = c.loop-sent.sent in
+    let n = c.in_ok-sent.field-0 in
+    let bytes = c.args.bytes.now in
+    let was = g.K.Sink.taken c.args.sink.now in
+    record {
+      within = grind (arith, common_steps);
+      went = λ tells.
+          c.in_ok-sent.ensures.bytes tells ∙ ap (λ xs. g.K.Sink.taken c.loop-sent.sink ++ take n xs) (take_rest bytes sent)
+          ∙ ap (λ xs. xs ++ take n (drop sent bytes)) (c.loop-sent.invariant.went tells)
+          ∙ append_assoc was (take sent bytes) (take n (drop sent bytes)) ∙ ap (λ xs. was ++ xs) (sym (take_further sent n bytes));
+      beside = c.give.ensures.beside ∙ c.loop-sent.invariant.beside;
+      loans = c.give.ensures.loans ∙ c.loop-sent.invariant.loans;
+      never_falls = omega (arith, c.give.ensures.never_falls, c.loop-sent.invariant.never_falls);
+    }

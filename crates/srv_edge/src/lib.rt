@@ -1,0 +1,23 @@
+//! What a session meets outside itself: sources and sinks of bytes, their fakes in memory and the
+//! standard streams, and the plain types that all crates above share.
+#![tactic(auto)]
+
+mod both;
+mod failed;
+mod link;
+mod memory;
+mod piece;
+mod records;
+mod sink;
+mod source;
+mod standard;
+
+pub use crate::both::Both;
+pub use crate::failed::{Failed, Limits, Refusal, SessionEnd};
+pub use crate::link::Link;
+pub use crate::memory::{MemLink, MemSink, MemSource};
+pub use crate::piece::{PIECE_BYTES, Piece, Room};
+pub use crate::records::RecordList;
+pub use crate::sink::{Sink, give_all};
+pub use crate::source::Source;
+pub use crate::standard::{StdIn, StdOut};
