@@ -1,2 +1,4 @@
 mod Cutting
 pub mod Filling
+pub mod Numbers
+pub mod Streams

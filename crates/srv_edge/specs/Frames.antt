@@ -6,6 +6,10 @@ use Rattle.byteorder.specs.Endian.{little_bytes}
 unfoldable pub word_bytes : ℕ → List ℕ
 word_bytes n = little_bytes 4 n
 
+-- the two bytes of a number, the lowest first
+unfoldable pub half_bytes : ℕ → List ℕ
+half_bytes n = little_bytes 2 n
+
 -- a kind and a body
 pub record Frame : Type 0 where
   pub kind : ℕ

@@ -11,6 +11,7 @@ mod records;
 mod sink;
 mod source;
 mod standard;
+mod words;
 
 pub use crate::both::Both;
 pub use crate::failed::{Failed, Limits, Refusal, SessionEnd};
@@ -21,3 +22,4 @@ pub use crate::records::RecordList;
 pub use crate::sink::{Sink, give_all};
 pub use crate::source::Source;
 pub use crate::standard::{StdIn, StdOut};
+pub use crate::words::{half_at, put_half, put_word, word_at};
