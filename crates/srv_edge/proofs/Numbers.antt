@@ -1,6 +1,6 @@
 -- Numbers as four bytes and as two.
 use Rattle.std.proofs.Common.{◌≡◌, ◌≤◌, ◌<◌, ◌^◌, ℕ, zero, suc, List, [], ◌∷◌, ◌++◌, length, get_or, take, drop, refl, sym, ap, ◌∙◌, lit<, arith}
-use Rattle.std.proofs.lemmas.List.{take-append-drop, get_or-take, length-take-le, drop_at}
+use Rattle.std.proofs.lemmas.List.{append-nil, take-append-drop, get_or-take, length-take-le, drop_at}
 use Rattle.std.proofs.lemmas.Nat.{le_bytes_2, le_bytes_4}
 use Rattle.byteorder.specs.Endian.{little_number, little_bytes}
 use Rattle.byteorder.specs.Numbers.{little_number-reads_back}
@@ -58,3 +58,8 @@ same_word m n xs ys lm ln e =
       number = sym (little_number-word m xs lm) ∙ ap (little_number 4) e ∙ little_number-word n ys ln;
       rest = sym (drop_at (word_bytes m) xs 4 (length-word_bytes m)) ∙ ap (drop 4) e ∙ drop_at (word_bytes n) ys 4 (length-word_bytes n);
     }
+
+-- the bytes of two numbers are those of one
+pub same_half : (m n : ℕ) (rest : List ℕ) → m < 2 ^ 16 → n < 2 ^ 16 → half_bytes m ≡ half_bytes n ++ rest → m ≡ n
+same_half m n rest lm ln e =
+    sym (little_number-half m [] lm) ∙ ap (little_number 2) (append-nil (half_bytes m) ∙ e) ∙ little_number-half n rest ln

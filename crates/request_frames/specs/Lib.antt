@@ -1,0 +1,5 @@
+pub mod Requests
+pub mod Refusals
+pub mod Talk
+pub mod Session
+pub mod Next

@@ -1,0 +1,57 @@
+-- Requests and replies as frames: the table of kinds.
+use Rattle.std.specs.Prelude.{◌≡◌, ◌≢◌, ◌≤◌, ◌<◌, ◌^◌, ◌⊎◌, ⊤, ℕ, List, [], length, drop, slice_index, All}
+use Rattle.srv_edge.specs.Frames.{Frame, half_bytes, word_bytes}
+use Rattle.request_frames.specs.declared.request.Request.{Request}
+use Rattle.request_frames.specs.declared.request.Request.TheVariants.{Hello, AddType, AddName, GetType, GetName, Counts, Bye}
+
+-- what a frame asks
+pub data Asked : Type 0 where
+  hello : ℕ → Asked
+  add_type : List ℕ → Asked
+  add_name : List ℕ → Asked
+  get_type : ℕ → Asked
+  get_name : ℕ → Asked
+  counts : Asked
+  bye : Asked
+
+-- what a request of the program asks
+abbrev pub asked : Request → Asked
+asked (Hello version) = hello version
+asked (AddType r) = add_type r.now
+asked (AddName name) = add_name name.now
+asked (GetType index) = get_type index
+asked (GetName offset) = get_name offset
+asked Counts = counts
+asked Bye = bye
+
+-- the frame of a request
+abbrev pub request_frame : Asked → Frame
+request_frame (hello version) = record { kind = 1; body = half_bytes version }
+request_frame (add_type r) = record { kind = 2; body = r }
+request_frame (add_name name) = record { kind = 4; body = name }
+request_frame (get_type index) = record { kind = 5; body = word_bytes index }
+request_frame (get_name offset) = record { kind = 7; body = word_bytes offset }
+request_frame counts = record { kind = 9; body = [] }
+request_frame bye = record { kind = 10; body = [] }
+
+-- what may be asked: a version of at least 1, a name of at most 65,535 bytes without NUL
+abbrev pub IsAsked : Asked → Type 0
+IsAsked (hello version) = (1 ≤ version) × (version < 2 ^ 16)
+IsAsked (add_type r) = ⊤
+IsAsked (add_name name) = (length name ≤ 65535) × All (λ b. b ≢ 0) name
+IsAsked (get_type index) = index < 2 ^ 32
+IsAsked (get_name offset) = offset < 2 ^ 32
+IsAsked counts = ⊤
+IsAsked bye = ⊤
+
+-- the kinds of requests
+abbrev pub IsKind : ℕ → Type 0
+IsKind kind = (kind ≡ 1) ⊎ (kind ≡ 2) ⊎ (kind ≡ 4) ⊎ (kind ≡ 5) ⊎ (kind ≡ 7) ⊎ (kind ≡ 9) ⊎ (kind ≡ 10)
+
+-- a kind and a body that lie one behind the other
+abbrev pub frame_of : List ℕ → Frame
+frame_of bytes = record { kind = slice_index bytes 0; body = drop 1 bytes }
+
+-- a frame whose body is none that its kind has
+abbrev pub IsBadBody : Frame → Type 0
+IsBadBody f = IsKind f.kind × ((a : Asked) → IsAsked a → request_frame a ≢ f)

@@ -1,0 +1,16 @@
+//! The protocol of a session: requests read and written, replies and refusals, the desk that answers
+//! and the loop that serves a link.
+#![tactic(auto)]
+
+mod desk;
+mod next;
+mod read;
+mod request;
+mod serve;
+mod write;
+
+pub use crate::desk::Desk;
+pub use crate::read::read_request;
+pub use crate::request::{BadFrame, Request};
+pub use crate::serve::serve_link;
+pub use crate::write::{write_bad, write_frame, write_refusal};

@@ -1,0 +1,87 @@
+ghost use Rattle.std.specs.Prelude.{◌≡◌, ◌≤◌, ◌+◌, ◌⊎◌, ◌++◌, ℕ, List, [], length, IsTrue};
+ghost use Rattle.srv_edge.specs.Count.{Rose};
+ghost use Rattle.srv_edge.specs.Stream.{Came};
+ghost use Rattle.request_frames.specs.Next.{IsFilled, IsNext};
+
+use srv_edge::{Piece, Source, word_at};
+
+/// The greatest length of a request.
+const MOST: u32 = 65_537;
+
+/// What came in the place of the next frame.
+#[derive(Clone, Copy, Debug, PartialEq, Eq)]
+pub(crate) enum Next {
+    Whole,
+    Ended,
+    CutShort,
+    BadLength(u32),
+    TooLong,
+    ReadFault,
+}
+
+// How far a buffer was filled.
+#[derive(Clone, Copy, Debug, PartialEq, Eq)]
+pub(crate) enum Filled {
+    Full,
+    NothingLeft,
+    AtLimit,
+    Failed,
+}
+
+/// Reads the four bytes of a length and then as many as it says, into an empty piece.
+pub(crate) fn next_frame<S: Source>(source: &mut S, limit: u64, frame: &mut Piece) -> Next
+    requires { frame.old ≡ [] }
+    ensures next { IsNext result frame.new limit }
+    ensures came { Came S.tells frame.new (S.given source.old) (S.left source.old) (S.given source.new) (S.left source.new) }
+    ensures none_left { (result ≡ Next.Ended) ⊎ (result ≡ Next.CutShort) → IsTrue S.tells → S.left source.new ≡ [] }
+    ensures beside { S.beside source.new ≡ S.beside source.old }
+    ensures loans { S.loans source.new ≡ S.loans source.old }
+    ensures never_falls { S.faults source.old ≤ S.faults source.new }
+    ensures failed { result ≡ Next.ReadFault → Rose (S.faults source.old) (S.faults source.new) }
+{
+    match fill(source, frame, 4, limit) {
+        Filled::Full => {}
+        Filled::NothingLeft if frame.is_empty() => return Next::Ended,
+        Filled::NothingLeft => return Next::CutShort,
+        Filled::AtLimit => return Next::TooLong,
+        Filled::Failed => return Next::ReadFault,
+    }
+    let length = word_at(frame.bytes());
+    if length == 0 || length > MOST {
+        return Next::BadLength(length);
+    }
+    match fill(source, frame, 4 + length as usize, limit) {
+        Filled::Full => Next::Whole,
+        Filled::NothingLeft => Next::CutShort,
+        Filled::AtLimit => Next::TooLong,
+        Filled::Failed => Next::ReadFault,
+    }
+}
+
+// Takes bytes until the piece has as many as are wanted. It never has more than the limit.
+fn fill<S: Source>(source: &mut S, piece: &mut Piece, want: usize, limit: u64) -> Filled
+    requires has { length piece.old ≤ want }
+    requires room { want ≤ 65542 }
+    requires within { length piece.old ≤ limit }
+    ensures filled { IsFilled result (length piece.new) want limit }
+    ensures came { (more : List ℕ) × (piece.new ≡ piece.old ++ more) × Came S.tells more (S.given source.old) (S.left source.old) (S.given source.new) (S.left source.new) }
+    ensures none_left { result ≡ Filled.NothingLeft → IsTrue S.tells → S.left source.new ≡ [] }
+    ensures beside { S.beside source.new ≡ S.beside source.old }
+    ensures loans { S.loans source.new ≡ S.loans source.old }
+    ensures never_falls { S.faults source.old ≤ S.faults source.new }
+    ensures failed { result ≡ Filled.Failed → Rose (S.faults source.old) (S.faults source.new) }
+{
+    while piece.len() < want {
+        let has = piece.len();
+        let most = limit.min(want as u64) as usize - has;
+        if most == 0 {
+            return Filled::AtLimit;
+        }
+        match piece.take_from(source, most) {
+            Ok(0) => return Filled::NothingLeft,
+            Ok(_) => {}
+            Err(_) => return Filled::Failed,
+        }
+    }
+    Filled::Full
+}

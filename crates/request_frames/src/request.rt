@@ -1,0 +1,23 @@
+/// What a client asks. Records and names are slices of the frame.
+#[derive(Clone, Copy, Debug)]
+pub enum Request<'a> {
+    /// The version of the protocol that the client speaks, at least 1.
+    Hello(u16),
+    /// A type's record. Any bytes may come: what is no record is malformed.
+    AddType(&'a [u8]),
+    /// At most 65,535 bytes without NUL.
+    AddName(&'a [u8]),
+    GetType(u32),
+    GetName(u32),
+    Counts,
+    Bye,
+}
+
+/// Why a frame is no request.
+#[derive(Clone, Copy, Debug, PartialEq, Eq)]
+pub enum BadFrame {
+    /// There are no requests of its kind.
+    Kind,
+    /// Requests of its kind have another body.
+    Body,
+}

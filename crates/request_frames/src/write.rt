@@ -1,0 +1,70 @@
+ghost use Rattle.std.specs.Prelude.{◌≡◌, ◌≤◌, ◌∷◌, ◌++◌, [], length};
+ghost use Rattle.srv_edge.specs.Frames.{frame_bytes, refused, word_bytes};
+ghost use Rattle.request_frames.specs.Refusals.{refusal_frame};
+
+use srv_edge::{Piece, Refusal, put_word};
+
+/// The kind of every refusal.
+const REFUSED: u8 = 0xff;
+
+/// Writes a frame into an empty piece: its length, its kind and its body.
+pub fn write_frame(kind: u8, body: &[u8], out: &mut Piece)
+    requires empty { out.old ≡ [] }
+    requires fits { length body.now ≤ 65537 }
+    ensures { out.new ≡ frame_bytes (record { kind = kind; body = body.now }) }
+{
+    let mut head = [0; 4];
+    put_word(&mut head, body.len() as u32 + 1);
+    out.push(&head);
+    out.push(&[kind]);
+    out.push(body);
+}
+
+/// Writes a refusal into an empty piece.
+pub fn write_refusal(r: &Refusal, out: &mut Piece)
+    requires { out.old ≡ [] }
+    ensures { out.new ≡ frame_bytes (refusal_frame r.now) }
+{
+    let (code, a, b) = numbers(r);
+    write_code(code, a, b, out);
+}
+
+/// Writes the refusal of a length, a kind or a body, codes 1 to 3, into an empty piece.
+pub fn write_bad(code: u8, a: u32, out: &mut Piece)
+    requires least { 1 ≤ code }
+    requires most { code ≤ 3 }
+    requires empty { out.old ≡ [] }
+    ensures { out.new ≡ frame_bytes (refused code a 0) }
+{
+    write_code(code, a, 0, out);
+}
+
+// The code and the two numbers of a refusal.
+fn numbers(r: &Refusal) -> (u8, u32, u32)
+    ensures { refused result.0 result.1 result.2 ≡ refusal_frame r.now }
+{
+    match *r {
+        Refusal::Malformed { at, what } => (4, at, u32::from(what)),
+        Refusal::NotGiven { space, index } => (5, u32::from(space), index),
+        Refusal::Full { which, needed } => (6, u32::from(which), needed),
+        Refusal::OutOfMemory => (7, 0, 0),
+        Refusal::DiskFault { number } => (8, number, 0),
+        Refusal::Underway { number } => (9, number, 0),
+    }
+}
+
+fn write_code(code: u8, a: u32, b: u32, out: &mut Piece)
+    requires { out.old ≡ [] }
+    ensures { out.new ≡ frame_bytes (refused code a b) }
+{
+    let mut first = [0; 4];
+    put_word(&mut first, a);
+    let mut second = [0; 4];
+    put_word(&mut second, b);
+    let mut head = [0; 4];
+    put_word(&mut head, 10);
+    out.push(&head);
+    out.push(&[REFUSED, code]);
+    out.push(&first);
+    out.push(&second);
+}
