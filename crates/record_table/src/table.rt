@@ -1,10 +1,10 @@
-ghost use Rattle.std.specs.Prelude.{◌≡◌, ◌≤◌, ◌^◌, ◌↔◌, ◌⊎◌, [], Err, None, Some, length, MatchOption, IfSome, IsTrue};
+ghost use Rattle.std.specs.Prelude.{◌≡◌, ◌≤◌, ◌^◌, ◌↔◌, ◌⊎◌, [], Err, None, Some, length, MatchOption, IfOk, IfSome, IsTrue};
 ghost use Rattle.std.specs.Option.{option_map};
 ghost use Rattle.record_table.specs.Table.{IsRecord, Table, after_add, answer_to_add, appends, bytes_in, index_at, index_of, place_of, record_at};
 
 use crate::fault::AddFault;
 use srv_edge::{Limits, RecordList};
-use std::alloc::Global;
+use std::alloc::{AllocError, Global};
 use std::marker::Model;
 
 /// The index of the first record of a table. Those below it are simple, and name no record.
@@ -32,14 +32,14 @@ impl Model for RecordTable {
 
 impl RecordTable {
     /// An empty table.
-    pub fn new(alloc: Global, limits: Limits) -> RecordTable
-        ensures { result ≡ record { max_records = limits.records; max_bytes = limits.bytes; records = [] } }
+    pub fn new(alloc: Global, limits: Limits) -> Result<RecordTable, AllocError>
+        ensures { IfOk result (λ t. t ≡ record { max_records = limits.records; max_bytes = limits.bytes; records = [] }) }
     {
-        RecordTable {
+        Ok(RecordTable {
             max_records: limits.records,
             max_bytes: limits.bytes,
             records: RecordList::new(alloc),
-        }
+        })
     }
 
     /// The least index of an equal record.

@@ -1,0 +1,5 @@
+use Rattle.names_table.proofs.Offsets.{found_name}
+use Rattle.names_table.proofs.table.NamesTable.get.Goals as goal
+
+pub returns-clause-length : goal.returns-clause-length
+returns-clause-length c = found_name c.find_name.result c.self.inside.names c.args.offset c.self.invariant.0 c.find_name.ensures

@@ -1,0 +1,9 @@
+//! The table of names, each at its offset among the strings of the stream `/names`.
+#![tactic(auto)]
+
+mod fault;
+mod search;
+mod table;
+
+pub use crate::fault::NameFault;
+pub use crate::table::NamesTable;

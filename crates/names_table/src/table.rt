@@ -1,0 +1,110 @@
+ghost use Rattle.std.specs.Prelude.{◌≡◌, ◌≤◌, ◌^◌, ◌↔◌, ◌⊎◌, [], Err, None, Some, length, MatchOption, IfOk, IfSome, IsTrue};
+ghost use Rattle.names_table.specs.Names.{IsName, Names, after_add, answer_to_add, appends, bytes_of, name_at, offset_of};
+
+use crate::fault::NameFault;
+use crate::search::{find_name, find_offset};
+use srv_edge::{Limits, RecordList};
+use std::alloc::{AllocError, Global};
+use std::marker::Model;
+
+/// The names of one file, searched from the front.
+#[derive(Drop)]
+pub struct NamesTable {
+    max_bytes: u32,
+    version: u32,
+    names: RecordList,
+    bytes: u32,
+}
+
+impl Model for NamesTable {
+    ghost use Rattle.std.specs.Prelude.{◌≡◌, ◌≤◌, ◌^◌, All};
+    ghost use Rattle.names_table.specs.Names.{IsName, Names, bytes_of};
+
+    ghost Value = { Names };
+
+    ghost view = { λ t. record { max_bytes = t.max_bytes; version = t.version; names = t.names } };
+
+    ghost invariant = { λ t. All IsName t.names × (t.bytes ≡ bytes_of t.names) × (t.bytes ≤ t.max_bytes) × (t.max_bytes ≤ 2 ^ 28) };
+}
+
+impl NamesTable {
+    /// An empty table. The version is that of the hashes with which the stream is written, 1 or 2.
+    pub fn new(alloc: Global, limits: Limits, version: u32) -> Result<NamesTable, AllocError>
+        requires { (version ≡ 1) ⊎ (version ≡ 2) }
+        ensures { IfOk result (λ t. t ≡ record { max_bytes = limits.name_bytes; version = version; names = [] }) }
+    {
+        Ok(NamesTable {
+            max_bytes: limits.name_bytes,
+            version,
+            names: RecordList::new(alloc),
+            bytes: 1,
+        })
+    }
+
+    /// The offset of an equal name, or the name appended. Only a name that is new and passes no limit
+    /// asks for memory.
+    pub fn add(&mut self, name: &[u8]) -> Result<u32, NameFault>
+        requires { IsName name.now }
+        ensures answer { (result ≡ answer_to_add self.old name.now) ⊎ (result ≡ Err NameFault.OutOfMemory) }
+        ensures after { (result ≡ Err NameFault.OutOfMemory) ⊎ (self.new ≡ after_add self.old name.now) }
+        ensures no_memory { result ≡ Err NameFault.OutOfMemory → IsTrue (appends self.old name.now) }
+        ensures kept { result ≡ Err NameFault.OutOfMemory → self.new ≡ self.old }
+    {
+        if let Some(offset) = self.find(name) {
+            return Ok(offset);
+        }
+        let offset = self.bytes;
+        let needed = offset + name.len() as u32 + 1;
+        if needed > self.max_bytes {
+            return Err(NameFault::Full { needed });
+        }
+        match self.names.push(name) {
+            Ok(()) => {
+                self.bytes = needed;
+                Ok(offset)
+            }
+            Err(_) => Err(NameFault::OutOfMemory),
+        }
+    }
+
+    // Where an equal name begins.
+    fn find(&self, name: &[u8]) -> Option<u32>
+        ensures { result ≡ offset_of self.now name.now }
+    {
+        if name.is_empty() {
+            return Some(0);
+        }
+        find_offset(&self.names, name)
+    }
+
+    /// The name that begins at an offset: the empty one at 0.
+    pub fn get(&self, offset: u32) -> Option<&[u8]>
+        ensures name { MatchOption result (name_at self.now offset ≡ None) (λ name. name_at self.now offset ≡ Some name.now) }
+        ensures length { IfSome result (λ name. length name.now ≤ 65535) }
+    {
+        if offset == 0 {
+            return Some(&[]);
+        }
+        find_name(&self.names, offset)
+    }
+
+    /// How many names there are, the empty one at 0 not among them.
+    pub fn len(&self) -> u32
+        ensures { result ≡ length self.now.names }
+    {
+        self.names.len()
+    }
+
+    pub fn is_empty(&self) -> bool
+        ensures { IsTrue result ↔ (self.now.names ≡ []) }
+    {
+        self.names.is_empty()
+    }
+
+    /// How many bytes the names take, with a NUL behind each and one before all.
+    pub fn bytes(&self) -> u32
+        ensures { result ≡ bytes_of self.now.names }
+    {
+        self.bytes
+    }
+}
