@@ -4,6 +4,7 @@ use Rattle.std.specs.List.{slice_get, AllByRecursion}
 use Rattle.std.specs.Str.{bytes_eq}
 use Rattle.std.proofs.lemmas.Bool.Decides.{eqb_tells}
 use Rattle.std.specs.Borrow.{Bor}
+use Rattle.std.specs.Option.{option_copied}
 use Rattle.std.proofs.lemmas.List.Elements.{recursion_from_All}
 use Rattle.srv_edge.specs.Records.{joined}
 use Rattle.names_table.specs.Names.{IsName, bytes_of, name_from, offset_from}
@@ -65,10 +66,9 @@ length-le [] = omega arith
 length-le (x ∷ names) = omega (arith, length-le names)
 
 -- a name that is lent has the length of a name
-pub found_name : (r : Option (Bor (List ℕ))) (names : List (List ℕ)) (offset : ℕ) → All IsName names
-    → MatchOption r (name_from 1 names offset ≡ None) (λ name. name_from 1 names offset ≡ Some name.now) → IfSome r (λ name. length name.now ≤ 65535)
+pub found_name : (r : Option (Bor (List ℕ))) (names : List (List ℕ)) (offset : ℕ) → All IsName names → option_copied r ≡ name_from 1 names offset → IfSome r (λ name. length name.now ≤ 65535)
 found_name None names offset all is = tt
-found_name (Some name) names offset all is = (found IsName 1 names offset name.now (recursion_from_All IsName names all) is).longest
+found_name (Some name) names offset all is = (found IsName 1 names offset name.now (recursion_from_All IsName names all) (sym is)).longest
 
 -- the bytes of a name and of those behind it
 pub bytes_of-at : (names : List (List ℕ)) (i : ℕ) (x : List ℕ) (start total : ℕ) → slice_get names i ≡ Some x → start + bytes_of (drop i names) ≡ total

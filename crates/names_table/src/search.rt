@@ -1,4 +1,5 @@
-ghost use Rattle.std.specs.Prelude.{◌≡◌, ◌≤◌, ◌^◌, None, Some, MatchOption};
+ghost use Rattle.std.specs.Prelude.{◌≡◌, ◌≤◌, ◌^◌};
+ghost use Rattle.std.specs.Option.{option_copied};
 ghost use Rattle.names_table.specs.Names.{bytes_of, name_from, offset_from};
 
 use srv_edge::RecordList;
@@ -23,7 +24,7 @@ pub(crate) fn find_offset(names: &RecordList, name: &[u8]) -> Option<u32>
 /// The name that begins at an offset.
 pub(crate) fn find_name(names: &RecordList, offset: u32) -> Option<&[u8]>
     requires { bytes_of names.now ≤ 2 ^ 28 }
-    ensures { MatchOption result (name_from 1 names.now offset ≡ None) (λ name. name_from 1 names.now offset ≡ Some name.now) }
+    ensures { option_copied result ≡ name_from 1 names.now offset }
 {
     let mut start: u32 = 1;
     let mut place = 0;

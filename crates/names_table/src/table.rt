@@ -1,4 +1,5 @@
-ghost use Rattle.std.specs.Prelude.{◌≡◌, ◌≤◌, ◌^◌, ◌↔◌, ◌⊎◌, [], Err, None, Some, length, MatchOption, IfOk, IfSome, IsTrue};
+ghost use Rattle.std.specs.Prelude.{◌≡◌, ◌≤◌, ◌^◌, ◌↔◌, ◌⊎◌, [], Err, None, Some, length, IfOk, IfSome, IsTrue};
+ghost use Rattle.std.specs.Option.{option_copied};
 ghost use Rattle.names_table.specs.Names.{IsName, Names, after_add, answer_to_add, appends, bytes_of, name_at, offset_of};
 
 use crate::fault::NameFault;
@@ -79,7 +80,7 @@ impl NamesTable {
 
     /// The name that begins at an offset: the empty one at 0.
     pub fn get(&self, offset: u32) -> Option<&[u8]>
-        ensures name { MatchOption result (name_at self.now offset ≡ None) (λ name. name_at self.now offset ≡ Some name.now) }
+        ensures name { option_copied result ≡ name_at self.now offset }
         ensures length { IfSome result (λ name. length name.now ≤ 65535) }
     {
         if offset == 0 {

@@ -1,5 +1,5 @@
-ghost use Rattle.std.specs.Prelude.{◌≡◌, ◌≤◌, ◌^◌, ◌↔◌, ◌⊎◌, [], Err, None, Some, length, MatchOption, IfOk, IfSome, IsTrue};
-ghost use Rattle.std.specs.Option.{option_map};
+ghost use Rattle.std.specs.Prelude.{◌≡◌, ◌≤◌, ◌^◌, ◌↔◌, ◌⊎◌, [], Err, None, Some, length, IfOk, IfSome, IsTrue};
+ghost use Rattle.std.specs.Option.{option_copied, option_map};
 ghost use Rattle.record_table.specs.Table.{IsRecord, Table, after_add, answer_to_add, appends, bytes_in, index_at, index_of, place_of, record_at};
 
 use crate::fault::AddFault;
@@ -77,7 +77,7 @@ impl RecordTable {
 
     /// The record at an index. It is one that a reply can carry.
     pub fn get(&self, index: u32) -> Option<&[u8]>
-        ensures record { MatchOption result (record_at self.now index ≡ None) (λ r. record_at self.now index ≡ Some r.now) }
+        ensures record { option_copied result ≡ record_at self.now index }
         ensures length { IfSome result (λ r. length r.now ≤ 65537) }
     {
         if index < FIRST_INDEX {
@@ -98,6 +98,13 @@ impl RecordTable {
         ensures { IsTrue result ↔ (self.now.records ≡ []) }
     {
         self.records.is_empty()
+    }
+
+    /// How many records there may be.
+    pub fn max_records(&self) -> u32
+        ensures { result ≡ self.now.max_records }
+    {
+        self.max_records
     }
 
     /// How many bytes the records have.

@@ -2,7 +2,7 @@ ghost use Rattle.std.specs.Prelude.{◌≡◌, ◌≤◌, ◌∷◌, ◌++◌, [
 ghost use Rattle.srv_edge.specs.Frames.{frame_bytes, refused, word_bytes};
 ghost use Rattle.request_frames.specs.Refusals.{refusal_frame};
 
-use srv_edge::{Piece, Refusal, put_word};
+use srv_edge::{Piece, Refusal, word};
 
 /// The kind of every refusal.
 const REFUSED: u8 = 0xff;
@@ -13,9 +13,7 @@ pub fn write_frame(kind: u8, body: &[u8], out: &mut Piece)
     requires fits { length body.now ≤ 65537 }
     ensures { out.new ≡ frame_bytes (record { kind = kind; body = body.now }) }
 {
-    let mut head = [0; 4];
-    put_word(&mut head, body.len() as u32 + 1);
-    out.push(&head);
+    out.push(&word(body.len() as u32 + 1));
     out.push(&[kind]);
     out.push(body);
 }
@@ -57,14 +55,8 @@ fn write_code(code: u8, a: u32, b: u32, out: &mut Piece)
     requires { out.old ≡ [] }
     ensures { out.new ≡ frame_bytes (refused code a b) }
 {
-    let mut first = [0; 4];
-    put_word(&mut first, a);
-    let mut second = [0; 4];
-    put_word(&mut second, b);
-    let mut head = [0; 4];
-    put_word(&mut head, 10);
-    out.push(&head);
+    out.push(&word(10));
     out.push(&[REFUSED, code]);
-    out.push(&first);
-    out.push(&second);
+    out.push(&word(a));
+    out.push(&word(b));
 }

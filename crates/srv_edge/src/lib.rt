@@ -22,4 +22,4 @@ pub use crate::records::RecordList;
 pub use crate::sink::{Sink, give_all};
 pub use crate::source::Source;
 pub use crate::standard::{StdIn, StdOut};
-pub use crate::words::{half_at, put_half, put_word, word_at};
+pub use crate::words::{half, half_at, word, word_at};

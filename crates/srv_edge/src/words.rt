@@ -11,12 +11,13 @@ pub fn word_at(bytes: &[u8]) -> u32
     LittleEndian::read_u32(bytes)
 }
 
-/// Writes a number into the first four bytes, the lowest first.
-pub fn put_word(bytes: &mut [u8], n: u32)
-    requires { 4 ≤ length bytes.old }
-    ensures { bytes.new ≡ word_bytes n ++ drop 4 bytes.old }
+/// The four bytes of a number, the lowest first.
+pub fn word(n: u32) -> [u8; 4]
+    ensures { result ≡ word_bytes n }
 {
-    LittleEndian::write_u32(bytes, n);
+    let mut bytes = [0; 4];
+    LittleEndian::write_u32(&mut bytes, n);
+    bytes
 }
 
 /// The number in the first two bytes, the lowest first.
@@ -27,10 +28,11 @@ pub fn half_at(bytes: &[u8]) -> u16
     LittleEndian::read_u16(bytes)
 }
 
-/// Writes a number into the first two bytes, the lowest first.
-pub fn put_half(bytes: &mut [u8], n: u16)
-    requires { 2 ≤ length bytes.old }
-    ensures { bytes.new ≡ half_bytes n ++ drop 2 bytes.old }
+/// The two bytes of a number, the lowest first.
+pub fn half(n: u16) -> [u8; 2]
+    ensures { result ≡ half_bytes n }
 {
-    LittleEndian::write_u16(bytes, n);
+    let mut bytes = [0; 2];
+    LittleEndian::write_u16(&mut bytes, n);
+    bytes
 }

@@ -23,8 +23,8 @@ overflow_add-place c =
 pub returns-then-start-offset : goal.returns-then-start-offset
 returns-then-start-offset c =
     let here = drop-at c.args.names.now c.loop-name.place c.in-Some.name.now c.in-Some.ensures.record in
-    sym (ap (λ xs. name_from c.loop-name.start xs c.args.offset) (sym here) ∙ c.loop-name.invariant.rest)
-    ∙ name_from-here c.loop-name.start c.in-Some.name.now (drop (c.loop-name.place + 1) c.args.names.now) c.args.offset c.if-start-offset.true
+    sym (name_from-here c.loop-name.start c.in-Some.name.now (drop (c.loop-name.place + 1) c.args.names.now) c.args.offset c.if-start-offset.true)
+    ∙ ap (λ xs. name_from c.loop-name.start xs c.args.offset) (sym here) ∙ c.loop-name.invariant.rest
 
 pub loop-name-preserved : goal.loop-name-preserved
 loop-name-preserved c =

@@ -1,0 +1,127 @@
+ghost use Rattle.std.specs.Prelude.{◌≡◌, ◌⊎◌, ◌&&◌, Err, IfOk, IsTrue, [], if◌then◌else◌};
+ghost use Rattle.names_table.specs.Names.{IsName, after_add as names_after, appends as name_appends};
+ghost use Rattle.record_table.specs.Table.{after_add, appends};
+ghost use Rattle.client_session.specs.Tables.{Answers, answer_to_name, answer_to_type, comes_to_table, space_number};
+
+use crate::replies::{write_bytes, write_counts, write_index};
+use leaf_grammar::{Space, check, first_missing};
+use names_table::{NameFault, NamesTable};
+use record_table::{AddFault, RecordTable};
+use request_frames::{Desk, Request, write_frame};
+use srv_edge::{Limits, Piece, Refusal, half};
+use std::alloc::{AllocError, Global};
+use std::marker::Model;
+
+/// The version of the protocol that is spoken.
+const VERSION: u16 = 1;
+
+/// A desk over tables of its own, which no file holds.
+#[derive(Drop)]
+pub struct Bare {
+    types: RecordTable,
+    names: NamesTable,
+}
+
+impl Model for Bare {
+    ghost use Rattle.client_session.specs.Tables.{Tables};
+
+    ghost Value = { Tables };
+
+    ghost view = { λ b. record { types = b.types; names = b.names } };
+}
+
+impl Bare {
+    /// A desk over empty tables.
+    pub fn new(alloc: Global, limits: Limits) -> Result<Bare, AllocError>
+        ensures types { IfOk result (λ b. b.types ≡ record { max_records = limits.records; max_bytes = limits.bytes; records = [] }) }
+        ensures names { IfOk result (λ b. b.names ≡ record { max_bytes = limits.name_bytes; version = 1; names = [] }) }
+    {
+        Ok(Bare {
+            types: RecordTable::new(alloc, limits)?,
+            names: NamesTable::new(alloc, limits, 1)?,
+        })
+    }
+}
+
+impl Desk for Bare {
+    type Ground = ();
+
+    ghost answers = { λ old a reply new. Answers old a reply new };
+
+    fn answer(&mut self, _ground: &(), request: &Request, out: &mut Piece) {
+        match *request {
+            Request::Hello(_) => write_frame(0x81, &half(VERSION), out),
+            Request::AddType(bytes) => {
+                write_index(0x82, add_type(&mut self.types, bytes), out);
+            }
+            Request::AddName(name) => write_index(0x84, add_name(&mut self.names, name), out),
+            Request::GetType(index) => {
+                let missing = Refusal::NotGiven { space: 0, index };
+                write_bytes(0x85, self.types.get(index), missing, out);
+            }
+            Request::GetName(offset) => {
+                let missing = Refusal::NotGiven {
+                    space: 2,
+                    index: offset,
+                };
+                write_bytes(0x87, self.names.get(offset), missing, out);
+            }
+            Request::Counts => write_counts(self.types.len(), 0, self.names.len(), out),
+            Request::Bye => write_frame(0x8a, &[], out),
+        }
+    }
+}
+
+// Judges a type's record and its fields, and adds it.
+fn add_type(types: &mut RecordTable, bytes: &[u8]) -> Result<u32, Refusal>
+    ensures answer { (result ≡ answer_to_type types.old bytes.now) ⊎ (result ≡ Err Refusal.OutOfMemory) }
+    ensures after { (result ≡ Err Refusal.OutOfMemory) ⊎ (types.new ≡ (if comes_to_table types.old bytes.now then after_add types.old bytes.now else types.old)) }
+    ensures no_memory { result ≡ Err Refusal.OutOfMemory → IsTrue (comes_to_table types.old bytes.now && appends types.old bytes.now) }
+    ensures kept { result ≡ Err Refusal.OutOfMemory → types.new ≡ types.old }
+{
+    if let Err(wrong) = check(Space::Types, bytes) {
+        return Err(Refusal::Malformed {
+            at: wrong.at,
+            what: wrong.what,
+        });
+    }
+    if let Some((space, index)) = first_missing(Space::Types, bytes, types.len(), 0) {
+        return Err(Refusal::NotGiven {
+            space: number_of(space),
+            index,
+        });
+    }
+    match types.add(bytes) {
+        Ok(index) => Ok(index),
+        Err(AddFault::Records) => Err(Refusal::Full {
+            which: 1,
+            needed: types.max_records(),
+        }),
+        Err(AddFault::Bytes { needed }) => Err(Refusal::Full { which: 2, needed }),
+        Err(AddFault::OutOfMemory) => Err(Refusal::OutOfMemory),
+    }
+}
+
+// The number of a space in a refusal.
+fn number_of(space: Space) -> u8
+    ensures { result ≡ space_number space }
+{
+    match space {
+        Space::Types => 0,
+        Space::Items => 1,
+    }
+}
+
+fn add_name(names: &mut NamesTable, name: &[u8]) -> Result<u32, Refusal>
+    requires { IsName name.now }
+    ensures answer { (result ≡ answer_to_name names.old name.now) ⊎ (result ≡ Err Refusal.OutOfMemory) }
+    ensures after { (result ≡ Err Refusal.OutOfMemory) ⊎ (names.new ≡ names_after names.old name.now) }
+    ensures no_memory { result ≡ Err Refusal.OutOfMemory → IsTrue (name_appends names.old name.now) }
+    ensures kept { result ≡ Err Refusal.OutOfMemory → names.new ≡ names.old }
+{
+    match names.add(name) {
+        Ok(offset) => Ok(offset),
+        Err(NameFault::Full { needed }) => Err(Refusal::Full { which: 3, needed }),
+        Err(NameFault::OutOfMemory) => Err(Refusal::OutOfMemory),
+    }
+}

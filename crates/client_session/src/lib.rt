@@ -1,0 +1,7 @@
+//! Desks: who answers the requests of a session.
+#![tactic(auto)]
+
+mod bare;
+mod replies;
+
+pub use crate::bare::Bare;
