@@ -1,0 +1,71 @@
+ghost use Rattle.std.specs.Prelude.{◌≡◌};
+ghost use Rattle.mspdbsrv.specs.Run.{status_of};
+
+use std::fmt;
+
+use srv_edge::SessionEnd;
+
+/// How a run of the program ended.
+#[derive(Clone, Copy, Debug, PartialEq, Eq)]
+pub enum Status {
+    /// The input was read to its end or to a Bye.
+    Ok,
+    /// The words are no form of the program.
+    Usage,
+    /// The source failed.
+    ReadFault,
+    /// The sink failed.
+    WriteFault,
+    /// The input has more than 2^32 bytes.
+    TooLong,
+    OutOfMemory,
+    /// The input ended within a frame.
+    CutShort,
+    /// A frame's length is 0 or over 65,537.
+    BadLength,
+}
+
+impl Status {
+    /// The exit status of the process.
+    pub fn code(self) -> u8 {
+        match self {
+            Status::Ok => 0,
+            Status::Usage => 2,
+            Status::ReadFault => 3,
+            Status::WriteFault => 4,
+            Status::TooLong => 7,
+            Status::OutOfMemory => 8,
+            Status::CutShort => 9,
+            Status::BadLength => 10,
+        }
+    }
+}
+
+impl fmt::Display for Status {
+    fn fmt<W: fmt::Write>(&self, f: &mut fmt::Formatter<W>) -> fmt::Result {
+        f.write_str(match self {
+            Status::Ok => "ok",
+            Status::Usage => "usage",
+            Status::ReadFault => "read fault",
+            Status::WriteFault => "write fault",
+            Status::TooLong => "too long",
+            Status::OutOfMemory => "out of memory",
+            Status::CutShort => "cut short",
+            Status::BadLength => "bad length",
+        })
+    }
+}
+
+/// The status of a session's end.
+pub(crate) fn status_of_end(end: SessionEnd) -> Status
+    ensures { result ≡ status_of end }
+{
+    match end {
+        SessionEnd::Bye | SessionEnd::Ended => Status::Ok,
+        SessionEnd::CutShort => Status::CutShort,
+        SessionEnd::BadLength => Status::BadLength,
+        SessionEnd::ReadFault => Status::ReadFault,
+        SessionEnd::WriteFault => Status::WriteFault,
+        SessionEnd::TooLong => Status::TooLong,
+    }
+}
