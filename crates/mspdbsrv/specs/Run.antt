@@ -32,9 +32,9 @@ IsEarly status.BadLength = ⊥
 -- the tables before the first request, with the limits of the program
 abbrev pub empty_tables : Tables
 empty_tables = record {
-    types = record { max_records = 8388608; max_bytes = 1073741824; records = [] };
-    names = record { max_bytes = 268435456; version = 1; names = [] };
-  }
+  types = record { max_records = 8388608; max_bytes = 1073741824; records = [] };
+  names = record { max_bytes = 268435456; version = 1; names = [] };
+}
 
 -- A session over empty tables, of at most 2 ^ 32 bytes: these bytes were read and these sent, and this
 -- was its status.

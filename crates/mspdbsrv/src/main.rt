@@ -4,19 +4,18 @@
 mod plan;
 mod run;
 mod status;
+#[cfg(test)]
+mod tests;
 mod word;
-
-use std::alloc::Global;
-use std::env;
-use std::io;
-use std::process::ExitCode;
-use std::rt::Env;
-
-use srv_edge::{StdIn, StdOut};
 
 use crate::run::run;
 use crate::status::Status;
 use crate::word::Word;
+use srv_edge::{StdIn, StdOut};
+use std::alloc::Global;
+use std::process::ExitCode;
+use std::rt::Env;
+use std::{env, io};
 
 // The words of the command line behind the program's name, or why there are none.
 fn words_of<R: Env + Alloc<A = Global>>(rt: &R) -> Result<Vec<Word>, Status> {

@@ -1,9 +1,8 @@
 ghost use Rattle.std.specs.Prelude.{◌≡◌};
 ghost use Rattle.mspdbsrv.specs.Run.{status_of};
 
-use std::fmt;
-
 use srv_edge::SessionEnd;
+use std::fmt;
 
 /// How a run of the program ended.
 #[derive(Clone, Copy, Debug, PartialEq, Eq)]

@@ -1,5 +1,6 @@
 pub mod Requests
 pub mod Refusals
+pub mod Replies
 pub mod Talk
 pub mod Session
 pub mod Next

@@ -2,15 +2,19 @@
 //! and the loop that serves a link.
 #![tactic(auto)]
 
+mod client;
 mod desk;
 mod next;
 mod read;
+mod reply;
 mod request;
 mod serve;
 mod write;
 
+pub use crate::client::{read_reply, write_request};
 pub use crate::desk::Desk;
 pub use crate::read::read_request;
+pub use crate::reply::Reply;
 pub use crate::request::{BadFrame, Request};
 pub use crate::serve::serve_link;
 pub use crate::write::{write_bad, write_frame, write_refusal};

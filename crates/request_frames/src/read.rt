@@ -64,7 +64,7 @@ fn read_name<'a>(body: &'a [u8]) -> Result<Request<'a>, BadFrame>
 }
 
 // A body that is one number of four bytes.
-fn read_word(body: &[u8]) -> Option<u32>
+pub(crate) fn read_word(body: &[u8]) -> Option<u32>
     ensures word { IfSome result (λ n. word_bytes n ≡ body.now) }
     ensures none { IfNone result ((n : ℕ) → word_bytes n ≢ body.now) }
 {

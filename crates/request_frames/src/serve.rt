@@ -1,10 +1,10 @@
-ghost use Rattle.std.specs.Prelude.{◌≡◌, ◌≤◌, ◌⊎◌, ◌↔◌, ℕ, List, [], length, drop, IsTrue, Some};
+ghost use Rattle.std.specs.Prelude.{◌≡◌, ◌≤◌, ◌<◌, ◌⊎◌, ◌↔◌, ℕ, List, [], length, drop, IsTrue, Some};
 ghost use Rattle.srv_edge.specs.Count.{Rose};
-ghost use Rattle.srv_edge.specs.Frames.{Frame, IsBye, IsLength, frame_bytes, length_of, refused};
+ghost use Rattle.srv_edge.specs.Frames.{AreFrames, Frame, IsBye, IsLength, Tail, frame_bytes, length_of, refused};
 ghost use Rattle.srv_edge.specs.Stream.{Came, Went};
 ghost use Rattle.request_frames.specs.Requests.{frame_of};
 ghost use Rattle.request_frames.specs.Talk.{AnswersFrame};
-ghost use Rattle.request_frames.specs.Session.{IsSession, Sends};
+ghost use Rattle.request_frames.specs.Session.{IsSession, Sends, end_at};
 ghost use Rattle.request_frames.specs.Next.{IsAnswered, IsInputEnd, IsTurn, IsWholeFrame};
 
 use crate::desk::Desk;
@@ -140,6 +140,34 @@ fn serve_next<L: Link, K: Desk>(
 /// answer, sends the reply, and so on. It asks a source for the rest of a length or a frame, of which
 /// any front may come, and for no more than `limit` bytes in all. What the room holds does not matter.
 pub fn serve_link<L: Link, K: Desk>(
+    ground: &K::Ground,
+    link: &mut L,
+    desk: &mut K,
+    limit: u64,
+    room: &mut Room,
+) -> SessionEnd
+    // These bytes came and these went, and they are a session of the desk.
+    ensures session { (read : List ℕ) × (sent : List ℕ) × IsSession K.answers limit desk.old desk.new read sent result
+        × Came L.Source.tells read (L.given link.old) (L.left link.old) (L.given link.new) (L.left link.new)
+        × Went L.Sink.tells sent (L.taken link.old) (L.taken link.new) }
+    ensures none_left { IsInputEnd (Some result) → IsTrue L.Source.tells → L.left link.new ≡ [] }
+    ensures read_fault { result ≡ SessionEnd.ReadFault → Rose (L.Source.faults link.old) (L.Source.faults link.new) }
+    ensures write_fault { result ≡ SessionEnd.WriteFault → Rose (L.Sink.faults link.old) (L.Sink.faults link.new) }
+    ensures source_faults { L.Source.faults link.old ≤ L.Source.faults link.new }
+    ensures sink_faults { L.Sink.faults link.old ≤ L.Sink.faults link.new }
+    ensures desk_faults { K.faults desk.old ≤ K.faults desk.new }
+    ensures link_loans { L.Source.loans link.new ≡ L.Source.loans link.old }
+    ensures desk_loans { K.loans desk.new ≡ K.loans desk.old }
+
+    // Where nothing fails, the input alone says how it ends.
+    ensures end { IsTrue L.Source.tells → ¬ Rose (L.Source.faults link.old) (L.Source.faults link.new) → ¬ Rose (L.Sink.faults link.old) (L.Sink.faults link.new)
+      → length (L.left link.old) < limit → (frames : List Frame) (tail : Tail) → AreFrames (L.left link.old) frames tail → result ≡ end_at tail }
+{
+    serve_frames(ground, link, desk, limit, room)
+}
+
+// Turn after turn, up to the end.
+fn serve_frames<L: Link, K: Desk>(
     ground: &K::Ground,
     link: &mut L,
     desk: &mut K,

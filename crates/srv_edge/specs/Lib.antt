@@ -2,3 +2,4 @@ pub mod Count
 pub mod Stream
 pub mod Frames
 pub mod Records
+pub mod Memory

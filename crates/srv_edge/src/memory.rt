@@ -82,8 +82,11 @@ pub struct MemSink {
 }
 
 impl MemSink {
+    ghost use Rattle.srv_edge.specs.Memory.{failing_gives};
+
     pub fn new(alloc: Global, fail: Vec<u32>) -> MemSink
         ensures taken { ⟦<MemSink as Sink>⟧.taken result ≡ [] }
+        ensures fails { failing_gives result ≡ fail.items }
         ensures faults { ⟦<MemSink as Sink>⟧.faults result ≡ 0 }
     {
         MemSink {

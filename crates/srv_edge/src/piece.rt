@@ -105,7 +105,10 @@ pub struct Room {
 }
 
 impl Room {
-    pub fn new(alloc: Global) -> Result<Room, AllocError> {
+    pub fn new(alloc: Global) -> Result<Room, AllocError>
+        ensures frame { IfOk result (λ r. r.frame ≡ []) }
+        ensures reply { IfOk result (λ r. r.reply ≡ []) }
+    {
         Ok(Room {
             frame: Piece::new(alloc)?,
             reply: Piece::new(alloc)?,

@@ -1,6 +1,8 @@
 use crate::failed::Failed;
 use crate::sink::Sink;
 use crate::source::Source;
+ghost use Rattle.std.specs.Prelude.{◌≡◌};
+
 use std::io::{Read, Write};
 
 /// A reader of the system, such as standard input, as a source. It tells no content.
@@ -10,8 +12,10 @@ pub struct StdIn<R> {
     faults: u64,
 }
 
-impl<R> StdIn<R> {
-    pub fn new(input: R) -> StdIn<R> {
+impl<R: Read> StdIn<R> {
+    pub fn new(input: R) -> StdIn<R>
+        ensures { ⟦<StdIn<R> as Source>⟧.faults result ≡ 0 }
+    {
         StdIn { input, faults: 0 }
     }
 }
@@ -38,8 +42,10 @@ pub struct StdOut<W> {
     faults: u64,
 }
 
-impl<W> StdOut<W> {
-    pub fn new(output: W) -> StdOut<W> {
+impl<W: Write> StdOut<W> {
+    pub fn new(output: W) -> StdOut<W>
+        ensures { ⟦<StdOut<W> as Sink>⟧.faults result ≡ 0 }
+    {
         StdOut { output, faults: 0 }
     }
 }

@@ -2,7 +2,7 @@ use Rattle.std.proofs.Common.{◌≡◌, ◌≤◌, ◌++◌, ℕ, List}
 use Rattle.srv_edge.specs.declared.failed.SessionEnd.{SessionEnd}
 use Rattle.srv_edge.specs.Stream.{Came, Went}
 use Rattle.request_frames.specs.Session.{IsSession}
-use Rattle.request_frames.proofs.serve.serve_link.Given as goal
+use Rattle.request_frames.proofs.serve.serve_frames.Given as goal
 
 -- whatever session follows is one from the start, behind what was read and sent so far
 abbrev pub invariant-frames : goal.invariant-frames
