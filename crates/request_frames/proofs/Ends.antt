@@ -22,9 +22,12 @@ frames_extend bytes more [] at_end closed a = absurd closed
 frames_extend bytes more [] cut_short closed a = absurd closed
 frames_extend bytes more [] (bad_length n) closed a = (a.0 ++ more, ap (λ xs. xs ++ more) a.1 ∙ append_assoc (word_bytes n) a.0 more, a.2, a.3)
 frames_extend bytes more [] at_bye closed a = absurd a
-frames_extend bytes more (f ∷ frames) tail closed a =
-    (a.0, a.1 ++ more, ap (λ xs. xs ++ more) a.2 ∙ append_assoc (frame_bytes f) a.1 more,
-      ⊎_elim (λ bye. inl bye) (λ on. inr (on.0, frames_extend a.1 more frames tail closed on.1)) a.3)
+frames_extend bytes more (f ∷ frames) tail closed a = (
+  a.0,
+  a.1 ++ more,
+  ap (λ xs. xs ++ more) a.2 ∙ append_assoc (frame_bytes f) a.1 more,
+  ⊎_elim (λ bye. inl bye) (λ on. inr (on.0, frames_extend a.1 more frames tail closed on.1)) a.3,
+)
 
 module _ {S : Type 0} (answers : S → Asked → Frame → S → Type 0) where
   -- the input is what was read and what is left

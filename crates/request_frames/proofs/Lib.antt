@@ -1,2 +1,4 @@
 pub mod Ends
+mod ReplyBodies
+mod OneRequest
 pub mod Turns

@@ -1,15 +1,13 @@
-ghost use Rattle.std.specs.Prelude.{◌≡◌, ◌≢◌, ◌≤◌, ◌++◌, ◌∷◌, ¬◌, ℕ, length, slice_index, IfOk, IfSome, IfNone, OnOk, OnErr, Err};
+ghost use Rattle.std.specs.Prelude.{◌≡◌, ◌≢◌, ◌≤◌, ◌++◌, ◌∷◌, ℕ, length, slice_index, IfOk, IfSome, IfNone, OnOk, OnErr, Err};
 ghost use Rattle.srv_edge.specs.Frames.{frame_bytes, half_bytes, length_of, word_bytes};
 ghost use Rattle.request_frames.specs.Requests.{IsAsked, asked, frame_of, request_frame};
 ghost use Rattle.request_frames.specs.Replies.{IsBadReply, IsReplyKind, reply_frame};
 
-use std::alloc::AllocError;
-
-use srv_edge::{half, half_at, word, word_at};
-
 use crate::read::read_word;
 use crate::reply::Reply;
 use crate::request::{BadFrame, Request};
+use srv_edge::{half, half_at, word, word_at};
+use std::alloc::AllocError;
 
 /// Writes a request behind what is there, with its length.
 pub fn write_request(r: &Request, out: &mut Vec<u8>) -> Result<(), AllocError>
@@ -50,19 +48,27 @@ pub fn read_reply<'a>(frame: &'a [u8]) -> Result<Reply<'a>, BadFrame>
     ensures body { result ≡ Err BadFrame.Body → IsBadReply (frame_of frame.now) }
 {
     let body = &frame[1..];
-    let reply = match frame[0] {
-        0x81 => read_half(body).map(Reply::Hello),
-        0x82 => read_word(body).map(Reply::AddedType),
-        0x84 => read_word(body).map(Reply::AddedName),
-        0x85 => Some(Reply::GotType(body)),
-        0x87 => Some(Reply::GotName(body)),
-        0x89 => read_counts(body),
-        0x8a if body.is_empty() => Some(Reply::Bye),
-        0x8a => None,
-        0xff => read_refusal(body),
-        _ => return Err(BadFrame::Kind),
-    };
-    reply.ok_or(BadFrame::Body)
+    match frame[0] {
+        0x81 => match read_half(body) {
+            Some(version) => Ok(Reply::Hello(version)),
+            None => Err(BadFrame::Body),
+        },
+        0x82 => match read_word(body) {
+            Some(index) => Ok(Reply::AddedType(index)),
+            None => Err(BadFrame::Body),
+        },
+        0x84 => match read_word(body) {
+            Some(offset) => Ok(Reply::AddedName(offset)),
+            None => Err(BadFrame::Body),
+        },
+        0x85 => Ok(Reply::GotType(body)),
+        0x87 => Ok(Reply::GotName(body)),
+        0x89 => read_counts(body).ok_or(BadFrame::Body),
+        0x8a if body.is_empty() => Ok(Reply::Bye),
+        0x8a => Err(BadFrame::Body),
+        0xff => read_refusal(body).ok_or(BadFrame::Body),
+        _ => Err(BadFrame::Kind),
+    }
 }
 
 // A body that is one number of two bytes.
@@ -70,7 +76,11 @@ fn read_half(body: &[u8]) -> Option<u16>
     ensures half { IfSome result (λ n. half_bytes n ≡ body.now) }
     ensures none { IfNone result ((n : ℕ) → half_bytes n ≢ body.now) }
 {
-    if body.len() == 2 { Some(half_at(body)) } else { None }
+    if body.len() == 2 {
+        Some(half_at(body))
+    } else {
+        None
+    }
 }
 
 // A body that is three numbers.

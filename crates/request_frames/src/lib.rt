@@ -4,15 +4,19 @@
 
 mod client;
 mod desk;
+mod laws;
 mod next;
 mod read;
 mod reply;
 mod request;
 mod serve;
+#[cfg(test)]
+mod tests;
 mod write;
 
 pub use crate::client::{read_reply, write_request};
 pub use crate::desk::Desk;
+pub use crate::laws::one_request_a_frame;
 pub use crate::read::read_request;
 pub use crate::reply::Reply;
 pub use crate::request::{BadFrame, Request};

@@ -161,7 +161,7 @@ pub fn serve_link<L: Link, K: Desk>(
 
     // Where nothing fails, the input alone says how it ends.
     ensures end { IsTrue L.Source.tells → ¬ Rose (L.Source.faults link.old) (L.Source.faults link.new) → ¬ Rose (L.Sink.faults link.old) (L.Sink.faults link.new)
-      → length (L.left link.old) < limit → (frames : List Frame) (tail : Tail) → AreFrames (L.left link.old) frames tail → result ≡ end_at tail }
+        → length (L.left link.old) < limit → (frames : List Frame) (tail : Tail) → AreFrames (L.left link.old) frames tail → result ≡ end_at tail }
 {
     serve_frames(ground, link, desk, limit, room)
 }
