@@ -1,1 +1,1 @@
-mod OneKind
+pub mod Further
