@@ -11,6 +11,6 @@ pub use crate::grammar::{
     Condition, Cursor, Form, Item, Leaf, Malformed, Part, Row, Rows, Space, Width,
 };
 pub use crate::kinds::{parts_of_kind, rows_of_kind};
-pub use crate::parts::{holds, past, read};
+pub use crate::parts::{holds, past, read, width_bytes};
 pub use crate::rows::row_from;
 pub use crate::walk::check;

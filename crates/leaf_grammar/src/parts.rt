@@ -121,8 +121,8 @@ fn past_text(bytes: &[u8], at: usize) -> Result<usize, Malformed>
     }
 }
 
-// The bytes of a number.
-fn width_bytes(width: Width) -> usize
+/// How many bytes a number has.
+pub fn width_bytes(width: Width) -> usize
     ensures { result ≡ size_of width }
 {
     match width {
