@@ -8,7 +8,8 @@ use Rattle.leaf_grammar.specs.declared.grammar.Rows.{Rows}
 use Rattle.leaf_grammar.specs.declared.grammar.Cursor.{Cursor}
 use Rattle.leaf_grammar.specs.declared.grammar.Malformed.{Malformed}
 use Rattle.leaf_grammar.specs.Leaf.{past, row_end}
-use Rattle.index_fields.specs.Fields.{Field, field_at, run_from, fields_at, onwards, parts_fields, row_fields, rows_fields}
+use Rattle.leaf_grammar.specs.Found.{onwards, found_at, found_in}
+use Rattle.index_fields.specs.Fields.{Field, field_at, run_from, row_fields, rows_fields}
 
 run_suc : (space : Space) (r : List ℕ) (at n m : ℕ) → n ≡ suc m → run_from space r at n ≡ field_at space r at ∷ run_from space r (at + 4) m
 run_suc space r at n m e = rw e refl
@@ -19,18 +20,6 @@ run_step space r from count k h =
     let e : from + 4 * k + 4 ≡ from + 4 * (k + 1) = omega arith in
     run_suc space r (from + 4 * k) (count - k) (count - (k + 1)) (omega arith)
     ∙ ap (λ at. field_at space r (from + 4 * k) ∷ run_from space r at (count - (k + 1))) e
-
-pub parts_step : (parts : List Part) (i : ℕ) (d : Part) (r : List ℕ) (c next : Cursor) → i < length parts → past (get_or parts i d) r c ≡ Ok next →
-    parts_fields (drop i parts) r c ≡ fields_at (get_or parts i d) r c ++ parts_fields (drop (i + 1) parts) r next
-parts_step parts i d r c next h e =
-    let part = get_or parts i d in
-    rw (drop-cons parts i d h) (ap (λ p. onwards p (λ x. fields_at part r c ++ parts_fields (drop (suc i) parts) r x)) e ∙ rw add-one refl)
-
-pub parts_fault : (parts : List Part) (i : ℕ) (d : Part) (r : List ℕ) (c : Cursor) (bad : Malformed) → i < length parts → past (get_or parts i d) r c ≡ Err bad →
-    parts_fields (drop i parts) r c ≡ []
-parts_fault parts i d r c bad h e =
-    let part = get_or parts i d in
-    rw (drop-cons parts i d h) (ap (λ p. onwards p (λ x. fields_at part r c ++ parts_fields (drop (suc i) parts) r x)) e)
 
 rows_suc : (rows : Rows) (n m : ℕ) (r : List ℕ) (at : ℕ) → n ≡ suc m → at < length r →
     rows_fields rows n r at ≡ row_fields rows r at ++ onwards (row_end rows r at) (rows_fields rows m r)

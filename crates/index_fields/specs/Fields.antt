@@ -1,5 +1,5 @@
 -- The index fields of a leaf, and the first that names nothing.
-use Rattle.std.specs.Prelude.{ℕ, zero, suc, ◌+◌, nat_lt, List, [], ◌∷◌, ◌++◌, length, drop, Option, Some, None, Result, Ok, Err, if◌then◌else◌}
+use Rattle.std.specs.Prelude.{ℕ, zero, suc, ◌+◌, nat_lt, List, [], ◌∷◌, ◌++◌, length, drop, Option, Some, None, if◌then◌else◌}
 use Rattle.byteorder.specs.Endian.{little_number}
 use Rattle.leaf_grammar.specs.declared.grammar.Space.{Space}
 use Rattle.leaf_grammar.specs.declared.grammar.Space.TheVariants.{Types, Items}
@@ -7,12 +7,11 @@ use Rattle.leaf_grammar.specs.declared.grammar.Item.TheVariants as item
 use Rattle.leaf_grammar.specs.declared.grammar.Form.{Form}
 use Rattle.leaf_grammar.specs.declared.grammar.Form.TheVariants as form
 use Rattle.leaf_grammar.specs.declared.grammar.Part.{Part}
-use Rattle.leaf_grammar.specs.declared.grammar.Part.TheVariants.{Always, Where, Attributes}
 use Rattle.leaf_grammar.specs.declared.grammar.Rows.{Rows}
 use Rattle.leaf_grammar.specs.declared.grammar.Cursor.{Cursor}
-use Rattle.leaf_grammar.specs.declared.grammar.Malformed.{Malformed}
 use Rattle.leaf_grammar.specs.Kinds.{parts_of, rows_of}
-use Rattle.leaf_grammar.specs.Leaf.{size_of, number_at, says, cursor, past, parts_end, row_at, row_end, kind_of}
+use Rattle.leaf_grammar.specs.Leaf.{size_of, number_at, cursor, parts_end, row_at, row_end, kind_of}
+use Rattle.leaf_grammar.specs.Found.{onwards, found_in}
 
 -- an index field: the space that it names, its offset from the record's first byte, its value
 pub record Field : Type 0 where
@@ -38,21 +37,9 @@ fields_in (form.List width (item.Index space)) r at = run_from space r (at + siz
 fields_in (form.List width item.Byte) r at = []
 fields_in (form.List width item.HalfByte) r at = []
 
--- the index fields of a part
-unfoldable pub fields_at : Part → List ℕ → Cursor → List Field
-fields_at (Always form) r c = fields_in form r c.at
-fields_at (Where condition form) r c = if says condition c.attributes then fields_in form r c.at else []
-fields_at (Attributes width) r c = []
-
--- what stands behind, up to the first fault: a leaf has none
-abbrev pub onwards : {A : Type 0} → Result A Malformed → (A → List Field) → List Field
-onwards (Ok x) fields = fields x
-onwards (Err bad) fields = []
-
 -- the index fields of the parts that stand from a cursor on, from left to right
 abbrev pub parts_fields : List Part → List ℕ → Cursor → List Field
-parts_fields [] r c = []
-parts_fields (part ∷ parts) r c = onwards (past part r c) (λ d. fields_at part r c ++ parts_fields parts r d)
+parts_fields parts r c = found_in fields_in parts r c
 
 -- the index fields of the member or method that stands at a place
 abbrev pub row_fields : Rows → List ℕ → ℕ → List Field

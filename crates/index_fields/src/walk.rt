@@ -1,6 +1,7 @@
 ghost use Rattle.std.specs.Prelude.{◌≡◌, ◌≤◌, ◌<◌, ◌+◌, ◌*◌, length, Some, IfOk, IsOk};
 ghost use Rattle.leaf_grammar.specs.Leaf.{cursor, form_end, leaf_of, past as cursor_past, parts_end, row_end};
-ghost use Rattle.index_fields.specs.Fields.{content_fields, fields_at, fields_in, fields_of, parts_fields, row_fields, rows_fields, run_from, tail_fields};
+ghost use Rattle.leaf_grammar.specs.Found.{found_at};
+ghost use Rattle.index_fields.specs.Fields.{content_fields, fields_in, fields_of, parts_fields, row_fields, rows_fields, run_from, tail_fields};
 ghost use Rattle.index_fields.specs.Visits.{Visits};
 
 use crate::visit::Visit;
@@ -102,11 +103,11 @@ fn visit_parts<V: Visit>(parts: &[Part], bytes: &[u8], from: usize, visit: &mut 
     Ok(cursor.at)
 }
 
-#[tactic(auto, unfolding(crate::specs::Fields::fields_at))]
+#[tactic(auto, unfolding(leaf_grammar::specs::Found::found_at))]
 fn visit_part<V: Visit>(part: Part, bytes: &[u8], from: Cursor, visit: &mut V)
     requires whole { IsOk (cursor_past part bytes.now from) }
     requires longest { length bytes.now ≤ 65536 }
-    ensures { Visits V.does (fields_at part bytes.now from) visit.old visit.new }
+    ensures { Visits V.does (found_at fields_in part bytes.now from) visit.old visit.new }
 {
     match part {
         Part::Always(form) => visit_form(form, bytes, from.at, visit),

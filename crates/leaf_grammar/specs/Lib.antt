@@ -1,3 +1,4 @@
 pub mod Kinds
 pub mod Leaf
 pub mod Rows
+pub mod Found

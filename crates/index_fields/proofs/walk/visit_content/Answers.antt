@@ -1,7 +1,8 @@
 use Rattle.std.proofs.Common.{◌≡◌, ◌++◌, List, ℕ, Result, Ok, sym, subst}
 use Rattle.leaf_grammar.specs.declared.grammar.Malformed.{Malformed}
 use Rattle.leaf_grammar.specs.Leaf.{cursor}
-use Rattle.index_fields.specs.Fields.{Field, onwards, parts_fields, tail_fields}
+use Rattle.leaf_grammar.specs.Found.{onwards}
+use Rattle.index_fields.specs.Fields.{Field, parts_fields, tail_fields}
 use Rattle.index_fields.specs.Visits.{Visits}
 use Rattle.index_fields.proofs.Visiting.{visits_append}
 use Rattle.index_fields.proofs.walk.visit_content.Goals as goal
