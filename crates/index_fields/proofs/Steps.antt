@@ -1,15 +1,11 @@
 -- The index fields of one step of a walk, and those of the rest.
-use Rattle.std.proofs.Common.{◌≡◌, ◌≤◌, ◌<◌, ◌+◌, ◌-◌, ◌*◌, ℕ, suc, zero, Bool, true, false, cond, ltb, List, [], ◌∷◌, ◌++◌, length, drop, get_or, Result, Ok, Err, refl, ap, ◌∙◌, sym, arith, lt-ltb, le-ltb, le-ltb, add-one, drop-cons}
-use Rattle.std.proofs.lemmas.Grind.{common_steps}
-use Rattle.std.proofs.lemmas.Bool.Decides.{nat_tests}
+use Rattle.std.proofs.Common.{◌≡◌, ◌≤◌, ◌<◌, ◌+◌, ◌-◌, ◌*◌, ℕ, suc, zero, cond, List, [], ◌∷◌, ◌++◌, length, Result, refl, ap, ◌∙◌, arith, lt-ltb, le-ltb, le-ltb}
 use Rattle.leaf_grammar.specs.declared.grammar.Space.{Space}
-use Rattle.leaf_grammar.specs.declared.grammar.Part.{Part}
 use Rattle.leaf_grammar.specs.declared.grammar.Rows.{Rows}
-use Rattle.leaf_grammar.specs.declared.grammar.Cursor.{Cursor}
 use Rattle.leaf_grammar.specs.declared.grammar.Malformed.{Malformed}
-use Rattle.leaf_grammar.specs.Leaf.{past, row_end}
-use Rattle.leaf_grammar.specs.Found.{onwards, found_at, found_in}
-use Rattle.index_fields.specs.Fields.{Field, field_at, run_from, row_fields, rows_fields}
+use Rattle.leaf_grammar.specs.Leaf.{row_end}
+use Rattle.leaf_grammar.specs.Found.{onwards}
+use Rattle.index_fields.specs.Fields.{field_at, run_from, row_fields, rows_fields}
 
 run_suc : (space : Space) (r : List ℕ) (at n m : ℕ) → n ≡ suc m → run_from space r at n ≡ field_at space r at ∷ run_from space r (at + 4) m
 run_suc space r at n m e = rw e refl

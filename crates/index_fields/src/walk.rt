@@ -5,10 +5,9 @@ ghost use Rattle.index_fields.specs.Fields.{content_fields, fields_in, fields_of
 ghost use Rattle.index_fields.specs.Visits.{Visits};
 
 use crate::visit::Visit;
-use byteorder::{ByteOrder, LittleEndian};
 use leaf_grammar::{
-    Cursor, Form, Item, Malformed, Part, Rows, Space, Width, holds, parts_of_kind, past, read, row_from,
-    rows_of_kind, width_bytes,
+    Cursor, Form, Item, Malformed, Part, Rows, Space, Width, holds, parts_of_kind, past, read,
+    record_kind, row_from, rows_of_kind, width_bytes,
 };
 
 /// Shows each index field of a leaf to a visitor, from left to right.
@@ -25,7 +24,7 @@ fn visit_record<V: Visit>(space: Space, bytes: &[u8], visit: &mut V)
     requires longest { length bytes.now ≤ 65536 }
     ensures { Visits V.does (fields_of space bytes.now) visit.old visit.new }
 {
-    let kind = LittleEndian::read_u16(&bytes[2..]);
+    let kind = record_kind(bytes);
     match parts_of_kind(space, kind) {
         None => {}
         Some(parts) => visit_content(parts, rows_of_kind(kind), bytes, visit),
@@ -71,7 +70,12 @@ fn visit_rows<V: Visit>(rows: Rows, bytes: &[u8], from: usize, visit: &mut V)
 }
 
 // A member or a method. The place behind it.
-fn visit_row<V: Visit>(rows: Rows, bytes: &[u8], at: usize, visit: &mut V) -> Result<usize, Malformed>
+fn visit_row<V: Visit>(
+    rows: Rows,
+    bytes: &[u8],
+    at: usize,
+    visit: &mut V,
+) -> Result<usize, Malformed>
     requires within { at < length bytes.now }
     requires longest { length bytes.now ≤ 65536 }
     ensures end { result ≡ row_end rows bytes.now at }
@@ -84,7 +88,12 @@ fn visit_row<V: Visit>(rows: Rows, bytes: &[u8], at: usize, visit: &mut V) -> Re
 }
 
 // The parts that stand from a place on. The place behind them.
-fn visit_parts<V: Visit>(parts: &[Part], bytes: &[u8], from: usize, visit: &mut V) -> Result<usize, Malformed>
+fn visit_parts<V: Visit>(
+    parts: &[Part],
+    bytes: &[u8],
+    from: usize,
+    visit: &mut V,
+) -> Result<usize, Malformed>
     requires within { from ≤ length bytes.now }
     requires longest { length bytes.now ≤ 65536 }
     ensures end { result ≡ parts_end parts.now bytes.now (cursor from 0) }

@@ -1,14 +1,11 @@
 -- What is read lies behind the place that it is read from.
-use Rattle.std.proofs.Common.{◌≡◌, ◌≤◌, ◌<◌, ◌+◌, ◌-◌, ◌*◌, ℕ, Bool, true, false, suc, zero, cond, eqb, ltb, List, [], ◌∷◌, length, slice_index, drop, Option, Some, None, Result, Ok, Err, IfOk, IsOk, refl, arith}
-use Rattle.std.proofs.lemmas.Grind.{common_steps}
-use Rattle.std.proofs.lemmas.Bool.{false≢true}
+use Rattle.std.proofs.Common.{◌≡◌, ◌≤◌, ◌<◌, ◌+◌, ◌-◌, ℕ, Bool, true, false, suc, zero, cond, eqb, ltb, List, [], ◌∷◌, length, slice_index, drop, Option, Some, None, Result, Ok, Err, IfOk, refl, arith}
 use Rattle.std.specs.Option.{option_map}
 use Rattle.leaf_words.specs.declared.NumericFault.{NumericFault}
 use Rattle.leaf_words.specs.declared.NumericFault.TheVariants.{Short, Unknown}
-use Rattle.leaf_words.specs.Words.{numeric_end, tail_end, tail_size, end_of_text, text_size}
+use Rattle.leaf_words.specs.Words.{numeric_end, tail_end, tail_size, text_size}
 use Rattle.byteorder.specs.Endian.{little_number}
-use Rattle.leaf_grammar.specs.declared.grammar.Space.{Space}
-use Rattle.leaf_grammar.specs.declared.grammar.Width.TheVariants.{Half, Word}
+use Rattle.leaf_grammar.specs.declared.grammar.Width.TheVariants.{Half}
 use Rattle.leaf_grammar.specs.declared.grammar.Form.{Form}
 use Rattle.leaf_grammar.specs.declared.grammar.Form.TheVariants as form
 use Rattle.leaf_grammar.specs.declared.grammar.Part.{Part}
@@ -17,8 +14,8 @@ use Rattle.leaf_grammar.specs.declared.grammar.Rows.{Rows}
 use Rattle.leaf_grammar.specs.declared.grammar.Rows.TheVariants.{Members, Methods}
 use Rattle.leaf_grammar.specs.declared.grammar.Cursor.{Cursor}
 use Rattle.leaf_grammar.specs.declared.grammar.Malformed.{Malformed}
-use Rattle.leaf_grammar.specs.Kinds.{method_parts, parts_of_member, flags16, u16, type_index, vtable_offset}
-use Rattle.leaf_grammar.specs.Leaf.{◌>>=◌, bytes_on, behind_numeric, behind_text, form_end, items_size, number_at, size_of, behind_form, cursor, past, says, parts_end, Row, row, member_row, pad_row, row_at, row_end, too_short, wrong_member, wrong_length, has_length, leaf_of}
+use Rattle.leaf_grammar.specs.Kinds.{method_parts, parts_of_member, u16, type_index, vtable_offset}
+use Rattle.leaf_grammar.specs.Leaf.{◌>>=◌, bytes_on, behind_numeric, behind_text, form_end, items_size, number_at, size_of, behind_form, cursor, past, says, parts_end, Row, row, member_row, pad_row, row_at, row_end, too_short, wrong_member}
 
 -- what came first, where something came behind it
 pub bind_ok : {A B : Type 0} (first : Result A Malformed) (f : A → Result B Malformed) (y : B) → (first >>= f) ≡ Ok y → (x : A) × (first ≡ Ok x) × (f x ≡ Ok y)
@@ -127,20 +124,3 @@ row_further Members r at end h =
 pub if_ok : {A E : Type 0} (r : Result A E) (P : A → Type 0) → ((x : A) → r ≡ Ok x → P x) → IfOk r P
 if_ok (Ok x) P f = f x refl
 if_ok (Err e) P f = tt
-
--- how long a leaf is
-pub record HasRoom (r : List ℕ) : Type 0 where
-  pub shortest : 4 ≤ length r
-  pub longest : length r ≤ 65536
-
-then_ok : {A E : Type 0} (b : Bool) (x : Result A E) (bad : E) → IsOk (cond b x (Err bad)) → b ≡ true
-then_ok true x bad h = refl
-then_ok false x bad h = absurd (false≢true h)
-
-length_room : (r : List ℕ) → has_length r ≡ true → HasRoom r
-length_room r h = grind (arith, common_steps)
-
--- a leaf has 4 to 65,536 bytes
-pub leaf_room : (space : Space) (r : List ℕ) → IsOk (leaf_of space r) → HasRoom r
-unfolding leaf_of
-leaf_room space r h = length_room r (then_ok (has_length r) _ (wrong_length 0) h)

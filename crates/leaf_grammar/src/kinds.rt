@@ -5,54 +5,94 @@ use crate::grammar::{Condition, Form, Item, Part, Rows, Space, Width};
 
 // The forms of parts that stand always: indices, numbers of 8, 16 and 32 bits, attributes, ..
 const TYPE: Part = Part::Always(Form::Index(Space::Types));
+
 const ITEM: Part = Part::Always(Form::Index(Space::Items));
+
 const N8: Part = Part::Always(Form::Number(1));
+
 const N16: Part = Part::Always(Form::Number(2));
+
 const N32: Part = Part::Always(Form::Number(4));
+
 const FLAGS16: Part = Part::Attributes(Width::Half);
+
 const FLAGS32: Part = Part::Attributes(Width::Word);
+
 const NUMERIC: Part = Part::Always(Form::Numeric);
+
 const TEXT: Part = Part::Always(Form::Text);
+
 const TYPES32: Part = Part::Always(Form::List(Width::Word, Item::Index(Space::Types)));
+
 const ITEMS16: Part = Part::Always(Form::List(Width::Half, Item::Index(Space::Items)));
+
 const ITEMS32: Part = Part::Always(Form::List(Width::Word, Item::Index(Space::Items)));
+
 const BYTES32: Part = Part::Always(Form::List(Width::Word, Item::Byte));
+
 const HALF_BYTES16: Part = Part::Always(Form::List(Width::Half, Item::HalfByte));
 
 // .. and those that the attributes before them decide.
 const CLASS_OF_MEMBER: Part = Part::Where(Condition::ToMember, Form::Index(Space::Types));
+
 const REPRESENTATION: Part = Part::Where(Condition::ToMember, Form::Number(2));
+
 const VTABLE_OFFSET: Part = Part::Where(Condition::Introducing, Form::Number(4));
+
 const UNIQUE_NAME: Part = Part::Where(Condition::UniquelyNamed, Form::Text);
 
 const VTSHAPE: &[Part] = &[HALF_BYTES16];
+
 const MODIFIER: &[Part] = &[TYPE, N16];
+
 const POINTER: &[Part] = &[TYPE, FLAGS32, CLASS_OF_MEMBER, REPRESENTATION];
+
 const PROCEDURE: &[Part] = &[TYPE, N8, N8, N16, TYPE];
+
 const MFUNCTION: &[Part] = &[TYPE, TYPE, TYPE, N8, N8, N16, TYPE, N32];
+
 const ARGLIST: &[Part] = &[TYPES32];
+
 const BITFIELD: &[Part] = &[TYPE, N8, N8];
+
 const ARRAY: &[Part] = &[TYPE, TYPE, NUMERIC, TEXT];
+
 const CLASS: &[Part] = &[N16, FLAGS16, TYPE, TYPE, TYPE, NUMERIC, TEXT, UNIQUE_NAME];
+
 const UNION: &[Part] = &[N16, FLAGS16, TYPE, NUMERIC, TEXT, UNIQUE_NAME];
+
 const ENUM: &[Part] = &[N16, FLAGS16, TYPE, TYPE, TEXT, UNIQUE_NAME];
+
 const VFTABLE: &[Part] = &[TYPE, TYPE, N32, BYTES32];
+
 const ROWS_ALONE: &[Part] = &[];
 
 const FUNC_ID: &[Part] = &[ITEM, TYPE, TEXT];
+
 const MFUNC_ID: &[Part] = &[TYPE, TYPE, TEXT];
+
 const BUILDINFO: &[Part] = &[ITEMS16];
+
 const SUBSTR_LIST: &[Part] = &[ITEMS32];
+
 const STRING_ID: &[Part] = &[ITEM, TEXT];
+
 const UDT_SRC_LINE: &[Part] = &[TYPE, ITEM, N32];
+
 const UDT_MOD_SRC_LINE: &[Part] = &[TYPE, N32, N32, N16];
 
 const BASE: &[Part] = &[N16, TYPE, NUMERIC];
+
 const VIRTUAL_BASE: &[Part] = &[N16, TYPE, TYPE, NUMERIC, NUMERIC];
+
 const TYPE_ALONE: &[Part] = &[N16, TYPE];
+
 const ENUMERATE: &[Part] = &[N16, NUMERIC, TEXT];
+
 const MEMBER: &[Part] = &[N16, TYPE, NUMERIC, TEXT];
+
 const TYPE_AND_NAME: &[Part] = &[N16, TYPE, TEXT];
+
 const ONEMETHOD: &[Part] = &[FLAGS16, TYPE, VTABLE_OFFSET, TEXT];
 
 const METHOD: &[Part] = &[FLAGS16, N16, TYPE, VTABLE_OFFSET];

@@ -13,4 +13,4 @@ pub use crate::grammar::{
 pub use crate::kinds::{parts_of_kind, rows_of_kind};
 pub use crate::parts::{holds, past, read, width_bytes};
 pub use crate::rows::row_from;
-pub use crate::walk::check;
+pub use crate::walk::{check, record_kind};

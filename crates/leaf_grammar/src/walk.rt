@@ -1,6 +1,6 @@
 ghost use Rattle.std.specs.Prelude.{◌≡◌, ◌≤◌, ◌<◌, ◌+◌, ◌^◌, length, OnOk, IfOk};
 ghost use Rattle.byteorder.specs.Endian.{little_number};
-ghost use Rattle.leaf_grammar.specs.Leaf.{cursor, has_length, leaf_of, parts_end, row_end, rows_end, tail_end};
+ghost use Rattle.leaf_grammar.specs.Leaf.{cursor, has_length, kind_of, leaf_of, parts_end, row_end, rows_end, tail_end};
 
 use crate::grammar::{Cursor, Leaf, Malformed, Part, Rows, Space};
 use crate::kinds::{parts_of_kind, rows_of_kind};
@@ -19,7 +19,7 @@ pub fn check(space: Space, bytes: &[u8]) -> Result<Leaf, Malformed>
     if !is_as_long_as_it_says(bytes) {
         return Err(wrong(0, Malformed::LENGTH));
     }
-    let kind = LittleEndian::read_u16(&bytes[2..]);
+    let kind = record_kind(bytes);
     let Some(parts) = parts_of_kind(space, kind) else {
         return Err(wrong(2, Malformed::KIND));
     };
@@ -34,6 +34,14 @@ fn is_as_long_as_it_says(bytes: &[u8]) -> bool
 {
     let n = bytes.len();
     4 <= n && n <= 65_536 && n % 4 == 0 && usize::from(LittleEndian::read_u16(bytes)) + 2 == n
+}
+
+/// The kind of a record, as the public format numbers it.
+pub fn record_kind(bytes: &[u8]) -> u16
+    requires { 4 ≤ length bytes.now }
+    ensures { result ≡ kind_of bytes.now }
+{
+    LittleEndian::read_u16(&bytes[2..])
 }
 
 // The place behind the parts that stand from a place on.

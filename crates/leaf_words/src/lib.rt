@@ -84,7 +84,11 @@ mod tests {
             (&[0x02, 0x80, 1, 2, 3], 0, Ok(4)),
             (&[0x04, 0x80, 1, 2, 3, 4], 0, Ok(6)),
             (&[0x0A, 0x80, 1, 2, 3, 4, 5, 6, 7, 8], 0, Ok(10)),
-            (&[0x09, 0x80, 1, 2, 3, 4, 5, 6, 7], 0, Err(NumericFault::Short)),
+            (
+                &[0x09, 0x80, 1, 2, 3, 4, 5, 6, 7],
+                0,
+                Err(NumericFault::Short),
+            ),
             (&[0x05, 0x80, 1, 2, 3, 4], 0, Err(NumericFault::Unknown)),
             (&[0x01], 0, Err(NumericFault::Short)),
             (&[0x01], 1, Err(NumericFault::Short)),

@@ -2,7 +2,11 @@
 #![tactic(auto)]
 
 mod crc;
+mod record;
 mod strings;
+mod texts;
 
 pub use crate::crc::buffer;
+pub use crate::record::of_record;
 pub use crate::strings::{string_v1, string_v2};
+pub use crate::texts::text;

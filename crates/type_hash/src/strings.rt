@@ -43,7 +43,9 @@ fn joined_rest(x: u32, rest: &[u8]) -> u32
 pub fn string_v2(bytes: &[u8]) -> u32
     ensures { result ≡ string_v2_of bytes.now }
 {
-    all_mixed(bytes).wrapping_mul(1_664_525).wrapping_add(1_013_904_223)
+    all_mixed(bytes)
+        .wrapping_mul(1_664_525)
+        .wrapping_add(1_013_904_223)
 }
 
 fn all_mixed(bytes: &[u8]) -> u32

@@ -1,4 +1,4 @@
-use Rattle.leaf_grammar.proofs.Further.{leaf_room}
+use Rattle.leaf_grammar.proofs.Rooms.{leaf_room}
 use Rattle.index_fields.proofs.walk.each_field.Goals as goal
 
 pub visit_record-requires-clause-shortest : goal.visit_record-requires-clause-shortest

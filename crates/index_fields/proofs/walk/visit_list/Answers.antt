@@ -1,4 +1,4 @@
-use Rattle.std.proofs.Common.{◌≤◌, ◌+◌, ◌*◌, length, arith}
+use Rattle.std.proofs.Common.{arith}
 use Rattle.index_fields.proofs.Rooms.{list_room}
 use Rattle.index_fields.proofs.walk.visit_list.Goals as goal
 

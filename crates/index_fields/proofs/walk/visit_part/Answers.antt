@@ -1,5 +1,6 @@
-use Rattle.std.proofs.Common.{sym, ◌∙◌}
-use Rattle.index_fields.proofs.Rooms.{form_ok, where_ok}
+use Rattle.std.proofs.Common.{sym}
+use Rattle.leaf_grammar.proofs.Rooms.{form_ok}
+use Rattle.index_fields.proofs.Rooms.{where_ok}
 use Rattle.index_fields.proofs.walk.visit_part.Goals as goal
 
 pub visit_form-requires-clause-whole : goal.visit_form-requires-clause-whole

@@ -1,8 +1,7 @@
-use Rattle.std.proofs.Common.{◌≡◌, ◌+◌, List, ◌++◌, drop, get_or, sym, ◌∙◌, subst, arith}
+use Rattle.std.proofs.Common.{◌+◌, List, drop, get_or, sym, subst, arith}
 use Rattle.std.proofs.lemmas.Grind.{common_steps}
 use Rattle.leaf_grammar.specs.declared.grammar.Space.TheVariants.{Types}
 use Rattle.leaf_grammar.specs.declared.grammar.Form.TheVariants.{Index}
-use Rattle.leaf_grammar.specs.declared.grammar.Part.{Part}
 use Rattle.leaf_grammar.specs.declared.grammar.Part.TheVariants.{Always}
 use Rattle.leaf_grammar.specs.Leaf.{cursor}
 use Rattle.leaf_grammar.specs.Found.{found_at}

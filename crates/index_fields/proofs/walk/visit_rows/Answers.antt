@@ -1,4 +1,4 @@
-use Rattle.std.proofs.Common.{◌≡◌, ◌-◌, ◌++◌, List, [], length, Ok, Err, refl, sym, subst, arith}
+use Rattle.std.proofs.Common.{◌-◌, List, [], length, Ok, Err, sym, subst, arith}
 use Rattle.index_fields.specs.Fields.{Field, row_fields, rows_fields}
 use Rattle.index_fields.proofs.Steps.{rows_step, rows_none}
 use Rattle.index_fields.proofs.Visiting.{Completes, completes_more, completes_end}
@@ -18,9 +18,12 @@ loop-at-preserved g c =
     let Left : List Field → Type 0 = λ fields. Completes g.V.Visit.does fields c.loop-at.visit all c.args.visit.now in
     record {
       inside = c.in-Ok.ensures.inside;
-      visits = (left.0 - 1, omega (arith, left.1, c.in-Ok.ensures.further, c.loop-at-test.true),
-          completes_more g.V.Visit.does (row_fields rows r at) rest c.loop-at.visit c.visit_row.new.visit all c.args.visit.now c.in-Ok.ensures.visits
-          (subst Left (rows_step rows left.0 r at (Ok c.in-Ok.end) c.loop-at-test.true left.1 (sym c.in-Ok.ensures.end)) left.2));
+      visits = (
+        left.0 - 1,
+        omega (arith, left.1, c.in-Ok.ensures.further, c.loop-at-test.true),
+        completes_more g.V.Visit.does (row_fields rows r at) rest c.loop-at.visit c.visit_row.new.visit all c.args.visit.now c.in-Ok.ensures.visits
+            (subst Left (rows_step rows left.0 r at (Ok c.in-Ok.end) c.loop-at-test.true left.1 (sym c.in-Ok.ensures.end)) left.2),
+      );
     }
 
 pub returns-in_default : goal.returns-in_default
@@ -33,7 +36,7 @@ returns-in_default g c =
     let Left : List Field → Type 0 = λ fields. Completes g.V.Visit.does fields c.loop-at.visit all c.args.visit.now in
     completes_end g.V.Visit.does c.visit_row.new.visit all c.args.visit.now
     (completes_more g.V.Visit.does (row_fields rows r at) [] c.loop-at.visit c.visit_row.new.visit all c.args.visit.now c.in_default.ensures.visits
-        (subst Left (rows_step rows left.0 r at (Err c.in_default.field-0) c.loop-at-test.true left.1 (sym c.in_default.ensures.end)) left.2))
+    (subst Left (rows_step rows left.0 r at (Err c.in_default.field-0) c.loop-at-test.true left.1 (sym c.in_default.ensures.end)) left.2))
 
 pub returns : goal.returns
 returns g c =

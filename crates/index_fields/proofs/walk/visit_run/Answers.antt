@@ -1,4 +1,4 @@
-use Rattle.std.proofs.Common.{◌≡◌, ◌+◌, ◌-◌, ◌*◌, ℕ, List, ◌∷◌, subst}
+use Rattle.std.proofs.Common.{◌+◌, ◌-◌, ◌*◌, ℕ, List, subst}
 use Rattle.index_fields.specs.Fields.{Field, field_at, run_from}
 use Rattle.index_fields.proofs.Steps.{run_step}
 use Rattle.index_fields.proofs.Visiting.{Completes, completes_one}

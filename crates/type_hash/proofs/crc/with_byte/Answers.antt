@@ -1,4 +1,4 @@
-use Rattle.std.proofs.Common.{◌/◌, arith}
+use Rattle.std.proofs.Common.{arith}
 use Rattle.type_hash.proofs.Table.{crc_byte-row}
 use Rattle.type_hash.proofs.crc.with_byte.Goals as goal
 
