@@ -2,6 +2,8 @@
 #![tactic(auto)]
 
 mod missing;
+#[cfg(test)]
+mod tests;
 mod visit;
 mod walk;
 

@@ -5,6 +5,8 @@ mod grammar;
 mod kinds;
 mod parts;
 mod rows;
+#[cfg(test)]
+mod tests;
 mod walk;
 
 pub use crate::grammar::{

@@ -4,6 +4,8 @@
 mod crc;
 mod record;
 mod strings;
+#[cfg(test)]
+mod tests;
 mod texts;
 
 pub use crate::crc::buffer;
