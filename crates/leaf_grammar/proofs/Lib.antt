@@ -1,1 +1,3 @@
-mod OneKind
+pub mod Further
+pub mod Finding
+pub mod Rooms

@@ -1,2 +1,4 @@
+pub mod Kinds
 pub mod Leaf
-pub mod Fields
+pub mod Rows
+pub mod Found

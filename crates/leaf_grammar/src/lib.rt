@@ -1,11 +1,18 @@
-//! Which records are leaves: a walk over the parts of a record's kind, and the records that a leaf
-//! names.
+//! Which records are leaves: a walk over the parts of a record's kind, from left to right.
 #![tactic(auto)]
 
-mod fields;
 mod grammar;
+mod kinds;
+mod parts;
+mod rows;
+#[cfg(test)]
+mod tests;
 mod walk;
 
-pub use crate::fields::first_missing;
-pub use crate::grammar::{Leaf, Malformed, Part, Space};
-pub use crate::walk::check;
+pub use crate::grammar::{
+    Condition, Cursor, Form, Item, Leaf, Malformed, Part, Row, Rows, Space, Width,
+};
+pub use crate::kinds::{parts_of_kind, rows_of_kind};
+pub use crate::parts::{holds, past, read, width_bytes};
+pub use crate::rows::row_from;
+pub use crate::walk::{check, record_kind};

@@ -1,13 +1,15 @@
-ghost use Rattle.std.specs.Prelude.{◌≡◌, ◌≤◌, ◌+◌, None, Some, length, MatchOption, OnOk};
+ghost use Rattle.std.specs.Prelude.{◌≡◌, ◌≤◌, ◌<◌, ◌+◌, ◌^◌, length, OnOk, IfOk};
 ghost use Rattle.byteorder.specs.Endian.{little_number};
-ghost use Rattle.leaf_grammar.specs.Leaf.{content_from, has_length, leaf_of, parts_of, size_of};
+ghost use Rattle.leaf_grammar.specs.Leaf.{cursor, has_length, kind_of, leaf_of, parts_end, row_end, rows_end, tail_end};
 
-use crate::grammar::{Leaf, Malformed, Part, Space};
+use crate::grammar::{Cursor, Leaf, Malformed, Part, Rows, Space};
+use crate::kinds::{parts_of_kind, rows_of_kind};
+use crate::parts::{past, wrong};
+use crate::rows::row_from;
 use byteorder::{ByteOrder, LittleEndian};
 
-const MODIFIER: &[Part] = &[Part::Index(Space::Types), Part::Number(2)];
-
 /// Judges a record of a space, from left to right.
+#[tactic(auto, unfolding(crate::specs::Leaf::leaf_of))]
 pub fn check(space: Space, bytes: &[u8]) -> Result<Leaf, Malformed>
     ensures leaf { result ≡ leaf_of space bytes.now }
     ensures shortest { OnOk result (4 ≤ length bytes.now) }
@@ -17,11 +19,12 @@ pub fn check(space: Space, bytes: &[u8]) -> Result<Leaf, Malformed>
     if !is_as_long_as_it_says(bytes) {
         return Err(wrong(0, Malformed::LENGTH));
     }
-    let kind = LittleEndian::read_u16(&bytes[2..]);
+    let kind = record_kind(bytes);
     let Some(parts) = parts_of_kind(space, kind) else {
         return Err(wrong(2, Malformed::KIND));
     };
-    let end = walk(parts, bytes)?;
+    let behind = walk(parts, bytes, 4)?;
+    let end = walk_tail(rows_of_kind(kind), bytes, behind)?;
     Ok(Leaf { kind, end })
 }
 
@@ -33,52 +36,65 @@ fn is_as_long_as_it_says(bytes: &[u8]) -> bool
     4 <= n && n <= 65_536 && n % 4 == 0 && usize::from(LittleEndian::read_u16(bytes)) + 2 == n
 }
 
-// The parts of a kind's content.
-pub(crate) fn parts_of_kind(space: Space, kind: u16) -> Option<&'static [Part]>
-    ensures { MatchOption result (parts_of space kind ≡ None) (λ parts. parts_of space kind ≡ Some parts.now) }
+/// The kind of a record, as the public format numbers it.
+pub fn record_kind(bytes: &[u8]) -> u16
+    requires { 4 ≤ length bytes.now }
+    ensures { result ≡ kind_of bytes.now }
 {
-    match (space, kind) {
-        (Space::Types, 0x1001) => Some(MODIFIER),
-        _ => None,
-    }
+    LittleEndian::read_u16(&bytes[2..])
 }
 
-// The bytes of a part.
-pub(crate) fn part_size(part: Part) -> usize
-    ensures { result ≡ size_of part }
+// The place behind the parts that stand from a place on.
+fn walk(parts: &[Part], bytes: &[u8], from: usize) -> Result<usize, Malformed>
+    requires within { from ≤ length bytes.now }
+    requires longest { length bytes.now ≤ 65536 }
+    ensures end { result ≡ parts_end parts.now bytes.now (cursor from 0) }
+    ensures on { IfOk result (λ end. from ≤ end) }
+    ensures inside { IfOk result (λ end. end ≤ length bytes.now) }
 {
-    match part {
-        Part::Index(_) => 4,
-        Part::Number(size) => usize::from(size),
-    }
-}
-
-// The place behind the parts, which begin behind length and kind.
-fn walk(parts: &[Part], bytes: &[u8]) -> Result<usize, Malformed>
-    requires least { 4 ≤ length bytes.now }
-    requires most { length bytes.now ≤ 65536 }
-    ensures { result ≡ content_from parts.now bytes.now 4 }
-{
-    let mut at = 4;
+    let mut cursor = Cursor {
+        at: from,
+        attributes: 0,
+    };
     for part in parts {
-        let size = part_size(*part);
-        if bytes.len() - at < size {
-            return Err(wrong(at, Malformed::SHORT));
-        }
-        at += size;
+        cursor = past(*part, bytes, cursor)?;
     }
-    if bytes.len() - at > 3 {
-        return Err(wrong(at, Malformed::REST));
+    Ok(cursor.at)
+}
+
+// Members or methods to the end, or at most 3 bytes.
+fn walk_tail(rows: Option<Rows>, bytes: &[u8], from: usize) -> Result<usize, Malformed>
+    requires within { from ≤ length bytes.now }
+    requires longest { length bytes.now ≤ 65536 }
+    ensures { result ≡ tail_end rows bytes.now from }
+{
+    match rows {
+        Some(rows) => walk_rows(rows, bytes, from),
+        None if bytes.len() - from > 3 => Err(wrong(from, Malformed::REST)),
+        None => Ok(from),
+    }
+}
+
+// The place behind the rows that stand from a place to the end.
+fn walk_rows(rows: Rows, bytes: &[u8], from: usize) -> Result<usize, Malformed>
+    requires within { from ≤ length bytes.now }
+    requires longest { length bytes.now ≤ 65536 }
+    ensures { result ≡ rows_end rows (length bytes.now) bytes.now from }
+{
+    let mut at = from;
+    while at < bytes.len() {
+        at = walk_row(rows, bytes, at)?;
     }
     Ok(at)
 }
 
-fn wrong(at: usize, what: u8) -> Malformed
-    requires { at ≤ 65536 }
-    ensures { result ≡ record { at = at; what = what } }
+fn walk_row(rows: Rows, bytes: &[u8], at: usize) -> Result<usize, Malformed>
+    requires within { at < length bytes.now }
+    requires longest { length bytes.now ≤ 65536 }
+    ensures end { result ≡ row_end rows bytes.now at }
+    ensures further { IfOk result (λ end. at < end) }
+    ensures inside { IfOk result (λ end. end ≤ length bytes.now) }
 {
-    Malformed {
-        at: at as u32,
-        what,
-    }
+    let row = row_from(rows, bytes, at)?;
+    walk(row.parts, bytes, row.at)
 }

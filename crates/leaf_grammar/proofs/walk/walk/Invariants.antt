@@ -1,10 +1,10 @@
 use Rattle.std.proofs.Common.{◌≡◌, ◌≤◌, length, drop}
-use Rattle.leaf_grammar.specs.Leaf.{content_from}
+use Rattle.leaf_grammar.specs.Leaf.{parts_end, cursor}
 use Rattle.leaf_grammar.proofs.walk.walk.Given as goal
 
 abbrev pub invariant-loop-part : goal.invariant-loop-part
 invariant-loop-part l = record {
-  behind : 4 ≤ l.at;
-  within : l.at ≤ length l.bytes;
-  rest : content_from (drop l.part-index l.parts) l.bytes l.at ≡ content_from l.parts l.bytes 4;
+  on : l.fn.from ≤ l.cursor.at;
+  inside : l.cursor.at ≤ length l.bytes;
+  rest : parts_end (drop l.part-index l.parts) l.bytes l.cursor ≡ parts_end l.parts l.bytes (cursor l.fn.from 0);
 }

@@ -1,0 +1,4 @@
+pub mod Visiting
+pub mod Rooms
+pub mod Steps
+pub mod SeenLemmas
