@@ -1,8 +1,8 @@
+ghost use Rattle.std.specs.Prelude.{◌≡◌};
+
 use crate::failed::Failed;
 use crate::sink::Sink;
 use crate::source::Source;
-ghost use Rattle.std.specs.Prelude.{◌≡◌};
-
 use std::io::{Read, Write};
 
 /// A reader of the system, such as standard input, as a source. It tells no content.
