@@ -5,7 +5,7 @@ use Rattle.leaf_grammar.specs.declared.grammar.Space.TheVariants.{Types, Items}
 use Rattle.leaf_grammar.specs.declared.grammar.Leaf.{Leaf}
 use Rattle.leaf_grammar.specs.declared.grammar.Malformed as malformed
 use Rattle.leaf_grammar.specs.Leaf.{leaf_of}
-use Rattle.leaf_grammar.specs.Fields.{missing}
+use Rattle.index_fields.specs.Fields.{missing}
 use Rattle.record_table.specs.declared.fault.AddFault.{AddFault}
 use Rattle.record_table.specs.declared.fault.AddFault.TheVariants as add_fault
 use Rattle.record_table.specs.Table as records
@@ -16,11 +16,12 @@ use Rattle.srv_edge.specs.declared.failed.Refusal.{Refusal}
 use Rattle.srv_edge.specs.declared.failed.Refusal.TheVariants.{Malformed, NotGiven, Full, OutOfMemory}
 use Rattle.srv_edge.specs.Frames.{Frame, half_bytes, word_bytes}
 use Rattle.request_frames.specs.Refusals.{refusal_frame}
-use Rattle.request_frames.specs.Requests.{Asked, hello, add_type, add_name, get_type, get_name, counts, bye}
+use Rattle.request_frames.specs.Requests.{Asked, hello, add_type, add_item, add_name, get_type, get_item, get_name, counts, bye}
 
--- the types and the names of a session
+-- the types, the items and the names of a session
 pub record Tables : Type 0 where
   pub types : records.Table
+  pub items : records.Table
   pub names : strings.Names
 
 -- the number of a space in a refusal
@@ -45,14 +46,22 @@ abbrev pub answer_to_bytes : Result Leaf malformed.Malformed → Result ℕ Refu
 answer_to_bytes (Err wrong) answer = Err (Malformed wrong.at wrong.what)
 answer_to_bytes (Ok leaf) answer = answer
 
--- the index of a type's record, or why it has none
-abbrev pub answer_to_type : records.Table → List ℕ → Result ℕ Refusal
-answer_to_type types r =
-    answer_to_bytes (leaf_of Types r) (answer_to_leaf (missing Types r (length types.records) 0) (answer_of_add (records.answer_to_add types r) types.max_records))
+-- the index of a record in the table of its space, where there are so many types and items, or why it has none
+abbrev pub answer_to_record : Space → records.Table → ℕ → ℕ → List ℕ → Result ℕ Refusal
+answer_to_record space table types items r =
+    answer_to_bytes (leaf_of space r) (answer_to_leaf (missing space r types items) (answer_of_add (records.answer_to_add table r) table.max_records))
 
--- whether a type's record comes to the table: it is a leaf whose fields name records
-abbrev pub comes_to_table : records.Table → List ℕ → Bool
-comes_to_table types r = is_ok (leaf_of Types r) && is_none (missing Types r (length types.records) 0)
+-- whether a record comes to its table: it is a leaf whose fields name records
+abbrev pub comes_to_table : Space → ℕ → ℕ → List ℕ → Bool
+comes_to_table space types items r = is_ok (leaf_of space r) && is_none (missing space r types items)
+
+-- the table that an add of a record leaves
+abbrev pub table_after : Space → records.Table → ℕ → ℕ → List ℕ → records.Table
+table_after space table types items r = if comes_to_table space types items r then records.after_add table r else table
+
+-- whether an add of a record makes its table grow
+abbrev pub record_grows : Space → records.Table → ℕ → ℕ → List ℕ → Bool
+record_grows space table types items r = comes_to_table space types items r && records.appends table r
 
 -- the offset of a name, or why it has none
 abbrev pub answer_of_name : Result ℕ NameFault → Result ℕ Refusal
@@ -73,22 +82,33 @@ abbrev pub bytes_reply : ℕ → Option (List ℕ) → Refusal → Frame
 bytes_reply kind (Some bytes) refusal = record { kind = kind; body = bytes }
 bytes_reply kind None refusal = refusal_frame refusal
 
--- The reply to a request, where memory is there. The protocol's version is 1; there are no items yet.
+-- how many types there are, and how many items
+abbrev pub type_count : Tables → ℕ
+type_count x = length x.types.records
+
+abbrev pub item_count : Tables → ℕ
+item_count x = length x.items.records
+
+-- The reply to a request, where memory is there. The protocol's version is 1.
 abbrev pub reply_to : Tables → Asked → Frame
 reply_to x (hello version) = record { kind = 129; body = half_bytes 1 }
-reply_to x (add_type r) = index_reply 130 (answer_to_type x.types r)
+reply_to x (add_type r) = index_reply 130 (answer_to_record Types x.types (type_count x) (item_count x) r)
+reply_to x (add_item r) = index_reply 131 (answer_to_record Items x.items (type_count x) (item_count x) r)
 reply_to x (add_name name) = index_reply 132 (answer_to_name x.names name)
 reply_to x (get_type index) = bytes_reply 133 (records.record_at x.types index) (NotGiven 0 index)
+reply_to x (get_item index) = bytes_reply 134 (records.record_at x.items index) (NotGiven 1 index)
 reply_to x (get_name offset) = bytes_reply 135 (strings.name_at x.names offset) (NotGiven 2 offset)
-reply_to x counts = record { kind = 137; body = word_bytes (length x.types.records) ++ word_bytes 0 ++ word_bytes (length x.names.names) }
+reply_to x counts = record { kind = 137; body = word_bytes (type_count x) ++ word_bytes (item_count x) ++ word_bytes (length x.names.names) }
 reply_to x bye = record { kind = 138; body = [] }
 
 -- the tables that a request leaves, where memory is there
 abbrev pub after : Tables → Asked → Tables
 after x (hello version) = x
-after x (add_type r) = if comes_to_table x.types r then record x { types = records.after_add x.types r } else x
+after x (add_type r) = record x { types = table_after Types x.types (type_count x) (item_count x) r }
+after x (add_item r) = record x { items = table_after Items x.items (type_count x) (item_count x) r }
 after x (add_name name) = record x { names = strings.after_add x.names name }
 after x (get_type index) = x
+after x (get_item index) = x
 after x (get_name offset) = x
 after x counts = x
 after x bye = x
@@ -96,9 +116,11 @@ after x bye = x
 -- whether a request makes a table grow
 abbrev pub grows : Tables → Asked → Bool
 grows x (hello version) = false
-grows x (add_type r) = comes_to_table x.types r && records.appends x.types r
+grows x (add_type r) = record_grows Types x.types (type_count x) (item_count x) r
+grows x (add_item r) = record_grows Items x.items (type_count x) (item_count x) r
 grows x (add_name name) = strings.appends x.names name
 grows x (get_type index) = false
+grows x (get_item index) = false
 grows x (get_name offset) = false
 grows x counts = false
 grows x bye = false

@@ -1,10 +1,10 @@
-ghost use Rattle.std.specs.Prelude.{◌≡◌, ◌⊎◌, ◌&&◌, Err, IfOk, IsTrue, [], if◌then◌else◌};
+ghost use Rattle.std.specs.Prelude.{◌≡◌, ◌≤◌, ◌^◌, ◌⊎◌, Err, IfOk, IsTrue, []};
 ghost use Rattle.names_table.specs.Names.{IsName, after_add as names_after, appends as name_appends};
-ghost use Rattle.record_table.specs.Table.{after_add, appends};
 ghost use Rattle.client_session.specs.Tables.{Answers, answer_to_name, answer_to_type, comes_to_table, space_number};
 
 use crate::replies::{write_bytes, write_counts, write_index};
-use leaf_grammar::{Space, check, first_missing};
+use index_fields::first_missing;
+use leaf_grammar::{Space, check};
 use names_table::{NameFault, NamesTable};
 use record_table::{AddFault, RecordTable};
 use request_frames::{Desk, Request, write_frame};
@@ -19,6 +19,7 @@ const VERSION: u16 = 1;
 #[derive(Drop)]
 pub struct Bare {
     types: RecordTable,
+    items: RecordTable,
     names: NamesTable,
 }
 
@@ -27,17 +28,19 @@ impl Model for Bare {
 
     ghost Value = { Tables };
 
-    ghost view = { λ b. record { types = b.types; names = b.names } };
+    ghost view = { λ b. record { types = b.types; items = b.items; names = b.names } };
 }
 
 impl Bare {
     /// A desk over empty tables.
     pub fn new(alloc: Global, limits: Limits) -> Result<Bare, AllocError>
         ensures types { IfOk result (λ b. b.types ≡ record { max_records = limits.records; max_bytes = limits.bytes; records = [] }) }
+        ensures items { IfOk result (λ b. b.items ≡ record { max_records = limits.records; max_bytes = limits.bytes; records = [] }) }
         ensures names { IfOk result (λ b. b.names ≡ record { max_bytes = limits.name_bytes; version = 1; names = [] }) }
     {
         Ok(Bare {
             types: RecordTable::new(alloc, limits)?,
+            items: RecordTable::new(alloc, limits)?,
             names: NamesTable::new(alloc, limits, 1)?,
         })
     }
@@ -52,12 +55,23 @@ impl Desk for Bare {
         match *request {
             Request::Hello(_) => write_frame(0x81, &half(VERSION), out),
             Request::AddType(bytes) => {
-                write_index(0x82, add_type(&mut self.types, bytes), out);
+                let (types, items) = (self.types.len(), self.items.len());
+                let answer = add_record(Space::Types, &mut self.types, types, items, bytes);
+                write_index(0x82, answer, out);
+            }
+            Request::AddItem(bytes) => {
+                let (types, items) = (self.types.len(), self.items.len());
+                let answer = add_record(Space::Items, &mut self.items, types, items, bytes);
+                write_index(0x83, answer, out);
             }
             Request::AddName(name) => write_index(0x84, add_name(&mut self.names, name), out),
             Request::GetType(index) => {
                 let missing = Refusal::NotGiven { space: 0, index };
                 write_bytes(0x85, self.types.get(index), missing, out);
+            }
+            Request::GetItem(index) => {
+                let missing = Refusal::NotGiven { space: 1, index };
+                write_bytes(0x86, self.items.get(index), missing, out);
             }
             Request::GetName(offset) => {
                 let missing = Refusal::NotGiven {
@@ -66,36 +80,46 @@ impl Desk for Bare {
                 };
                 write_bytes(0x87, self.names.get(offset), missing, out);
             }
-            Request::Counts => write_counts(self.types.len(), 0, self.names.len(), out),
+            Request::Counts => {
+                write_counts(self.types.len(), self.items.len(), self.names.len(), out);
+            }
             Request::Bye => write_frame(0x8a, &[], out),
         }
     }
 }
 
-// Judges a type's record and its fields, and adds it.
-fn add_type(types: &mut RecordTable, bytes: &[u8]) -> Result<u32, Refusal>
-    ensures answer { (result ≡ answer_to_type types.old bytes.now) ⊎ (result ≡ Err Refusal.OutOfMemory) }
-    ensures after { (result ≡ Err Refusal.OutOfMemory) ⊎ (types.new ≡ (if comes_to_table types.old bytes.now then after_add types.old bytes.now else types.old)) }
-    ensures no_memory { result ≡ Err Refusal.OutOfMemory → IsTrue (comes_to_table types.old bytes.now && appends types.old bytes.now) }
-    ensures kept { result ≡ Err Refusal.OutOfMemory → types.new ≡ types.old }
+// Judges a record of a space and its fields, where there are so many types and items, and adds it.
+fn add_record(
+    space: Space,
+    table: &mut RecordTable,
+    types: u32,
+    items: u32,
+    bytes: &[u8],
+) -> Result<u32, Refusal>
+    requires types { types ≤ 2 ^ 23 }
+    requires items { items ≤ 2 ^ 23 }
+    ensures answer { (result ≡ answer_to_record space table.old types items bytes.now) ⊎ (result ≡ Err Refusal.OutOfMemory) }
+    ensures after { (result ≡ Err Refusal.OutOfMemory) ⊎ (table.new ≡ table_after space table.old types items bytes.now) }
+    ensures no_memory { result ≡ Err Refusal.OutOfMemory → IsTrue (record_grows space table.old types items bytes.now) }
+    ensures kept { result ≡ Err Refusal.OutOfMemory → table.new ≡ table.old }
 {
-    if let Err(wrong) = check(Space::Types, bytes) {
+    if let Err(wrong) = check(space, bytes) {
         return Err(Refusal::Malformed {
             at: wrong.at,
             what: wrong.what,
         });
     }
-    if let Some((space, index)) = first_missing(Space::Types, bytes, types.len(), 0) {
+    if let Some((missing, index)) = first_missing(space, bytes, types, items) {
         return Err(Refusal::NotGiven {
-            space: number_of(space),
+            space: number_of(missing),
             index,
         });
     }
-    match types.add(bytes) {
+    match table.add(bytes) {
         Ok(index) => Ok(index),
         Err(AddFault::Records) => Err(Refusal::Full {
             which: 1,
-            needed: types.max_records(),
+            needed: table.max_records(),
         }),
         Err(AddFault::Bytes { needed }) => Err(Refusal::Full { which: 2, needed }),
         Err(AddFault::OutOfMemory) => Err(Refusal::OutOfMemory),

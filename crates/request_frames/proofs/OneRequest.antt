@@ -4,16 +4,18 @@ use Rattle.std.proofs.lemmas.List.{append-nil}
 use Rattle.byteorder.specs.Endian.{little_number}
 use Rattle.srv_edge.specs.Frames.{Frame, half_bytes, word_bytes}
 use Rattle.srv_edge.proofs.Numbers.{little_number-half, little_number-word}
-use Rattle.request_frames.specs.Requests.{Asked, IsAsked, request_frame, hello, add_type, add_name, get_type, get_name, counts, bye}
+use Rattle.request_frames.specs.Requests.{Asked, IsAsked, request_frame, hello, add_type, add_item, add_name, get_type, get_item, get_name, counts, bye}
 
 -- the request that a kind and a body stand for
 abbrev read_back : Frame → Asked
 read_back f =
     cond (f.kind == 1) (hello (little_number 2 f.body))
     (cond (f.kind == 2) (add_type f.body)
+    (cond (f.kind == 3) (add_item f.body)
     (cond (f.kind == 4) (add_name f.body)
     (cond (f.kind == 5) (get_type (little_number 4 f.body))
-    (cond (f.kind == 7) (get_name (little_number 4 f.body)) (cond (f.kind == 9) counts bye)))))
+    (cond (f.kind == 6) (get_item (little_number 4 f.body))
+    (cond (f.kind == 7) (get_name (little_number 4 f.body)) (cond (f.kind == 9) counts bye)))))))
 
 half_back : (n : ℕ) → n < 2 ^ 16 → little_number 2 (half_bytes n) ≡ n
 half_back n lt = ap (little_number 2) (sym (append-nil (half_bytes n))) ∙ little_number-half n [] lt
@@ -24,8 +26,10 @@ word_back n lt = ap (little_number 4) (sym (append-nil (word_bytes n))) ∙ litt
 reads_back : (a : Asked) → IsAsked a → read_back (request_frame a) ≡ a
 reads_back (hello version) is = ap hello (half_back version is.1)
 reads_back (add_type r) is = refl
+reads_back (add_item r) is = refl
 reads_back (add_name name) is = refl
 reads_back (get_type index) is = ap get_type (word_back index is)
+reads_back (get_item index) is = ap get_item (word_back index is)
 reads_back (get_name offset) is = ap get_name (word_back offset is)
 reads_back counts is = refl
 reads_back bye is = refl

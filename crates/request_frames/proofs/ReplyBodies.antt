@@ -4,15 +4,17 @@ use Rattle.std.specs.Option.{ok_or}
 use Rattle.srv_edge.specs.Frames.{Frame, word_bytes}
 use Rattle.srv_edge.proofs.Numbers.{length-word_bytes}
 use Rattle.request_frames.specs.declared.reply.Reply.{Reply}
-use Rattle.request_frames.specs.declared.reply.Reply.TheVariants.{Hello, AddedType, AddedName, GotType, GotName, Counted, Bye, Refused}
+use Rattle.request_frames.specs.declared.reply.Reply.TheVariants.{Hello, AddedType, AddedItem, AddedName, GotType, GotItem, GotName, Counted, Bye, Refused}
 use Rattle.request_frames.specs.Replies.{reply_frame}
 
 -- counts are twelve bytes
 pub length-counts : (reply : Reply) (f : Frame) → reply_frame reply ≡ f → f.kind ≡ 137 → length f.body ≡ 12
 length-counts (Hello version) f e k = absurd (omega (arith, ap (λ x. x.kind) e, k))
 length-counts (AddedType index) f e k = absurd (omega (arith, ap (λ x. x.kind) e, k))
+length-counts (AddedItem index) f e k = absurd (omega (arith, ap (λ x. x.kind) e, k))
 length-counts (AddedName offset) f e k = absurd (omega (arith, ap (λ x. x.kind) e, k))
 length-counts (GotType r) f e k = absurd (omega (arith, ap (λ x. x.kind) e, k))
+length-counts (GotItem r) f e k = absurd (omega (arith, ap (λ x. x.kind) e, k))
 length-counts (GotName name) f e k = absurd (omega (arith, ap (λ x. x.kind) e, k))
 length-counts (Counted types items names) f e k =
     omega (
@@ -31,8 +33,10 @@ length-counts (Refused code a b) f e k = absurd (omega (arith, ap (λ x. x.kind)
 pub length-refusal : (reply : Reply) (f : Frame) → reply_frame reply ≡ f → f.kind ≡ 255 → length f.body ≡ 9
 length-refusal (Hello version) f e k = absurd (omega (arith, ap (λ x. x.kind) e, k))
 length-refusal (AddedType index) f e k = absurd (omega (arith, ap (λ x. x.kind) e, k))
+length-refusal (AddedItem index) f e k = absurd (omega (arith, ap (λ x. x.kind) e, k))
 length-refusal (AddedName offset) f e k = absurd (omega (arith, ap (λ x. x.kind) e, k))
 length-refusal (GotType r) f e k = absurd (omega (arith, ap (λ x. x.kind) e, k))
+length-refusal (GotItem r) f e k = absurd (omega (arith, ap (λ x. x.kind) e, k))
 length-refusal (GotName name) f e k = absurd (omega (arith, ap (λ x. x.kind) e, k))
 length-refusal (Counted types items names) f e k = absurd (omega (arith, ap (λ x. x.kind) e, k))
 length-refusal Bye f e k = absurd (omega (arith, ap (λ x. x.kind) e, k))

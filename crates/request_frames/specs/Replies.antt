@@ -2,14 +2,16 @@
 use Rattle.std.specs.Prelude.{◌≡◌, ◌≢◌, ◌⊎◌, ℕ, [], ◌++◌}
 use Rattle.srv_edge.specs.Frames.{Frame, half_bytes, refused, word_bytes}
 use Rattle.request_frames.specs.declared.reply.Reply.{Reply}
-use Rattle.request_frames.specs.declared.reply.Reply.TheVariants.{Hello, AddedType, AddedName, GotType, GotName, Counted, Bye, Refused}
+use Rattle.request_frames.specs.declared.reply.Reply.TheVariants.{Hello, AddedType, AddedItem, AddedName, GotType, GotItem, GotName, Counted, Bye, Refused}
 
 -- the frame of a reply
 abbrev pub reply_frame : Reply → Frame
 reply_frame (Hello version) = record { kind = 129; body = half_bytes version }
 reply_frame (AddedType index) = record { kind = 130; body = word_bytes index }
+reply_frame (AddedItem index) = record { kind = 131; body = word_bytes index }
 reply_frame (AddedName offset) = record { kind = 132; body = word_bytes offset }
 reply_frame (GotType r) = record { kind = 133; body = r.now }
+reply_frame (GotItem r) = record { kind = 134; body = r.now }
 reply_frame (GotName name) = record { kind = 135; body = name.now }
 reply_frame (Counted types items names) = record { kind = 137; body = word_bytes types ++ word_bytes items ++ word_bytes names }
 reply_frame Bye = record { kind = 138; body = [] }
@@ -17,7 +19,7 @@ reply_frame (Refused code a b) = refused code a b
 
 -- the kinds of replies
 abbrev pub IsReplyKind : ℕ → Type 0
-IsReplyKind kind = (kind ≡ 129) ⊎ (kind ≡ 130) ⊎ (kind ≡ 132) ⊎ (kind ≡ 133) ⊎ (kind ≡ 135) ⊎ (kind ≡ 137) ⊎ (kind ≡ 138) ⊎ (kind ≡ 255)
+IsReplyKind kind = (kind ≡ 129) ⊎ (kind ≡ 130) ⊎ (kind ≡ 131) ⊎ (kind ≡ 132) ⊎ (kind ≡ 133) ⊎ (kind ≡ 134) ⊎ (kind ≡ 135) ⊎ (kind ≡ 137) ⊎ (kind ≡ 138) ⊎ (kind ≡ 255)
 
 -- a frame whose body no reply of its kind has
 abbrev pub IsBadReply : Frame → Type 0

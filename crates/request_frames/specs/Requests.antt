@@ -2,14 +2,16 @@
 use Rattle.std.specs.Prelude.{◌≡◌, ◌≢◌, ◌≤◌, ◌<◌, ◌^◌, ◌⊎◌, ⊤, ℕ, List, [], length, drop, slice_index, All}
 use Rattle.srv_edge.specs.Frames.{Frame, half_bytes, word_bytes}
 use Rattle.request_frames.specs.declared.request.Request.{Request}
-use Rattle.request_frames.specs.declared.request.Request.TheVariants.{Hello, AddType, AddName, GetType, GetName, Counts, Bye}
+use Rattle.request_frames.specs.declared.request.Request.TheVariants.{Hello, AddType, AddItem, AddName, GetType, GetItem, GetName, Counts, Bye}
 
 -- what a frame asks
 pub data Asked : Type 0 where
   hello : ℕ → Asked
   add_type : List ℕ → Asked
+  add_item : List ℕ → Asked
   add_name : List ℕ → Asked
   get_type : ℕ → Asked
+  get_item : ℕ → Asked
   get_name : ℕ → Asked
   counts : Asked
   bye : Asked
@@ -18,8 +20,10 @@ pub data Asked : Type 0 where
 abbrev pub asked : Request → Asked
 asked (Hello version) = hello version
 asked (AddType r) = add_type r.now
+asked (AddItem r) = add_item r.now
 asked (AddName name) = add_name name.now
 asked (GetType index) = get_type index
+asked (GetItem index) = get_item index
 asked (GetName offset) = get_name offset
 asked Counts = counts
 asked Bye = bye
@@ -28,8 +32,10 @@ asked Bye = bye
 abbrev pub request_frame : Asked → Frame
 request_frame (hello version) = record { kind = 1; body = half_bytes version }
 request_frame (add_type r) = record { kind = 2; body = r }
+request_frame (add_item r) = record { kind = 3; body = r }
 request_frame (add_name name) = record { kind = 4; body = name }
 request_frame (get_type index) = record { kind = 5; body = word_bytes index }
+request_frame (get_item index) = record { kind = 6; body = word_bytes index }
 request_frame (get_name offset) = record { kind = 7; body = word_bytes offset }
 request_frame counts = record { kind = 9; body = [] }
 request_frame bye = record { kind = 10; body = [] }
@@ -38,15 +44,17 @@ request_frame bye = record { kind = 10; body = [] }
 abbrev pub IsAsked : Asked → Type 0
 IsAsked (hello version) = (1 ≤ version) × (version < 2 ^ 16)
 IsAsked (add_type r) = ⊤
+IsAsked (add_item r) = ⊤
 IsAsked (add_name name) = (length name ≤ 65535) × All (λ b. b ≢ 0) name
 IsAsked (get_type index) = index < 2 ^ 32
+IsAsked (get_item index) = index < 2 ^ 32
 IsAsked (get_name offset) = offset < 2 ^ 32
 IsAsked counts = ⊤
 IsAsked bye = ⊤
 
 -- the kinds of requests
 abbrev pub IsKind : ℕ → Type 0
-IsKind kind = (kind ≡ 1) ⊎ (kind ≡ 2) ⊎ (kind ≡ 4) ⊎ (kind ≡ 5) ⊎ (kind ≡ 7) ⊎ (kind ≡ 9) ⊎ (kind ≡ 10)
+IsKind kind = (kind ≡ 1) ⊎ (kind ≡ 2) ⊎ (kind ≡ 3) ⊎ (kind ≡ 4) ⊎ (kind ≡ 5) ⊎ (kind ≡ 6) ⊎ (kind ≡ 7) ⊎ (kind ≡ 9) ⊎ (kind ≡ 10)
 
 -- a kind and a body that lie one behind the other
 abbrev pub frame_of : List ℕ → Frame

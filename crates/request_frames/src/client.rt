@@ -19,8 +19,10 @@ pub fn write_request(r: &Request, out: &mut Vec<u8>) -> Result<(), AllocError>
     match *r {
         Request::Hello(version) => append(1, &half(version), out),
         Request::AddType(bytes) => append(2, bytes, out),
+        Request::AddItem(bytes) => append(3, bytes, out),
         Request::AddName(name) => append(4, name, out),
         Request::GetType(index) => append(5, &word(index), out),
+        Request::GetItem(index) => append(6, &word(index), out),
         Request::GetName(offset) => append(7, &word(offset), out),
         Request::Counts => append(9, &[], out),
         Request::Bye => append(10, &[], out),
@@ -57,11 +59,16 @@ pub fn read_reply<'a>(frame: &'a [u8]) -> Result<Reply<'a>, BadFrame>
             Some(index) => Ok(Reply::AddedType(index)),
             None => Err(BadFrame::Body),
         },
+        0x83 => match read_word(body) {
+            Some(index) => Ok(Reply::AddedItem(index)),
+            None => Err(BadFrame::Body),
+        },
         0x84 => match read_word(body) {
             Some(offset) => Ok(Reply::AddedName(offset)),
             None => Err(BadFrame::Body),
         },
         0x85 => Ok(Reply::GotType(body)),
+        0x86 => Ok(Reply::GotItem(body)),
         0x87 => Ok(Reply::GotName(body)),
         0x89 => read_counts(body).ok_or(BadFrame::Body),
         0x8a if body.is_empty() => Ok(Reply::Bye),

@@ -20,9 +20,14 @@ pub fn read_request<'a>(frame: &'a [u8]) -> Result<Request<'a>, BadFrame>
     match frame[0] {
         1 => read_hello(body),
         2 => Ok(Request::AddType(body)),
+        3 => Ok(Request::AddItem(body)),
         4 => read_name(body),
         5 => match read_word(body) {
             Some(index) => Ok(Request::GetType(index)),
+            None => Err(BadFrame::Body),
+        },
+        6 => match read_word(body) {
+            Some(index) => Ok(Request::GetItem(index)),
             None => Err(BadFrame::Body),
         },
         7 => match read_word(body) {

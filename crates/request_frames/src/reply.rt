@@ -3,11 +3,14 @@
 pub enum Reply<'a> {
     /// The version of the protocol that the server speaks.
     Hello(u16),
-    /// The index of the record.
+    /// The index of the type's record.
     AddedType(u32),
+    /// The index of the item's record.
+    AddedItem(u32),
     /// The offset of the name.
     AddedName(u32),
     GotType(&'a [u8]),
+    GotItem(&'a [u8]),
     GotName(&'a [u8]),
     /// How many types, items and names there are.
     Counted(u32, u32, u32),

@@ -5,9 +5,12 @@ pub enum Request<'a> {
     Hello(u16),
     /// A type's record. Any bytes may come: what is no record is malformed.
     AddType(&'a [u8]),
+    /// An item's record.
+    AddItem(&'a [u8]),
     /// At most 65,535 bytes without NUL.
     AddName(&'a [u8]),
     GetType(u32),
+    GetItem(u32),
     GetName(u32),
     Counts,
     Bye,

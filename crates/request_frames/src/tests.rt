@@ -4,11 +4,13 @@ use std::test::Fail;
 // Each request is written as these bytes and read again as itself.
 #[test]
 fn requests_both_ways(rt: HostRuntime) -> Result<(), Fail> {
-    let table: [(Request<'static>, &str); 7] = [
+    let table: [(Request<'static>, &str); 9] = [
         (Request::Hello(1), "03000000010100"),
         (Request::AddType(b"ab"), "03000000026162"),
+        (Request::AddItem(b"ab"), "03000000036162"),
         (Request::AddName(b""), "0100000004"),
         (Request::GetType(0x1000), "050000000500100000"),
+        (Request::GetItem(0x1000), "050000000600100000"),
         (Request::GetName(3), "050000000703000000"),
         (Request::Counts, "0100000009"),
         (Request::Bye, "010000000a"),
@@ -35,8 +37,10 @@ fn replies_by_their_kinds(rt: HostRuntime) -> Result<(), Fail> {
     let table = [
         ("810100", "Ok(Hello(1))"),
         ("8200100000", "Ok(AddedType(4096))"),
+        ("8300100000", "Ok(AddedItem(4096))"),
         ("8403000000", "Ok(AddedName(3))"),
         ("856162", "Ok(GotType([97, 98]))"),
+        ("866162", "Ok(GotItem([97, 98]))"),
         ("876263", "Ok(GotName([98, 99]))"),
         ("89010000000000000002000000", "Ok(Counted(1, 0, 2))"),
         ("8a", "Ok(Bye)"),
@@ -47,7 +51,7 @@ fn replies_by_their_kinds(rt: HostRuntime) -> Result<(), Fail> {
         ("8a00", "Err(Body)"),
         ("82001000", "Err(Body)"),
         ("ff0500000000001000", "Err(Body)"),
-        ("8300100000", "Err(Kind)"),
+        ("8802000000", "Err(Kind)"),
         ("02", "Err(Kind)"),
     ];
     for (text, want) in table {

@@ -14,33 +14,6 @@ returns-in-Hello-clause-reply c =
       λ fault. absurd (omega (arith, fault.0)),
     )
 
-pub returns-in-AddType-clause-reply : goal.returns-in-AddType-clause-reply
-returns-in-AddType-clause-reply c =
-    let result = c.add_type.result in
-    let r = c.in-AddType.bytes.now in
-    let add = c.add_type.ensures in
-    let x : Tables = record { types = c.self.inside.types; names = c.self.inside.names } in
-    rw (c.in-AddType.is, ← c.self.view_is) (
-      index_reply 130 result,
-      c.write_index.ensures,
-      adds_type x r result c.add_type.new.types add.answer add.after add.no_memory add.kept,
-      index_kind 130 result,
-      λ fault. absurd (index_no_fault 130 result (λ e. omega (arith, e)) (type_no_fault c.self.inside.types r result add.answer) fault),
-    )
-
-pub returns-in-Counts-clause-reply : goal.returns-in-Counts-clause-reply
-returns-in-Counts-clause-reply c =
-    let types = c.self.inside.types.records in
-    let names = c.self.inside.names.names in
-    rw (c.in-Counts.is, ← c.self.view_is) (
-      record { kind = 137; body = word_bytes (length types) ++ word_bytes 0 ++ word_bytes (length names) },
-      c.write_counts.ensures ∙ ap (λ n. frame_bytes (record { kind = 137; body = word_bytes n ++ word_bytes 0 ++ word_bytes c.len-in-Counts.result })) c.len.ensures.count
-          ∙ ap (λ n. frame_bytes (record { kind = 137; body = word_bytes (length types) ++ word_bytes 0 ++ word_bytes n })) c.len-in-Counts.ensures,
-      inl (refl, refl),
-      inl refl,
-      λ fault. absurd (omega (arith, fault.0)),
-    )
-
 pub returns-in-Bye-clause-reply : goal.returns-in-Bye-clause-reply
 returns-in-Bye-clause-reply c =
     rw c.in-Bye.is (record { kind = 138; body = [] }, c.write_frame-in-Bye.ensures, inl (refl, refl), inl refl, λ fault. absurd (omega (arith, fault.0)))
