@@ -1,0 +1,6 @@
+pub mod Counts
+pub mod Beginnings
+pub mod Standing
+pub mod Turns
+pub mod Tellings
+pub mod Passing
