@@ -4,3 +4,4 @@ pub mod Standing
 pub mod Turns
 pub mod Tellings
 pub mod Passing
+pub mod Crossing
