@@ -1,22 +1,21 @@
 -- From the steps at the table to what a pass keeps and a caller learns.
-use Rattle.std.proofs.Common.{◌≡◌, ◌≢◌, ℕ, ◌+◌, ◌<◌, ◌≤◌, Bool, true, false, List, [], ◌∷◌, ◌++◌, length, sym, refl, ap, subst, ◌∙◌, arith}
-use mathlib.Core.Option.{Option, none, some, some-injective}
+use Rattle.std.proofs.Common.{◌≡◌, ◌≢◌, ℕ, ◌+◌, true, false, List, [], ◌∷◌, ◌++◌, length, sym, refl, ap, subst, ◌∙◌, arith}
+use mathlib.Core.Option.{Option, some, some-injective}
 use lib.ListN.{get_elem?}
-use Rattle.atomic_table.specs.Table.{State, Me, Final, Seen, rest}
+use Rattle.atomic_table.specs.Table.{Me, Final, Seen, rest}
 use Rattle.atomic_table.specs.Seated.{TableId}
 use Rattle.turnstile.specs.declared.history.Entry.{Entry}
 use Rattle.turnstile.specs.declared.history.Basis.{Basis}
-use Rattle.turnstile.specs.declared.view.Ended.{Ended}
 use Rattle.turnstile.specs.declared.view.Place.{Place}
 use Rattle.turnstile.specs.declared.view.Place.TheVariants.{Empty, Full}
 use Rattle.turnstile.specs.declared.view.Role.TheVariants.{Caller}
 use Rattle.turnstile.specs.declared.view.Stage.{Stage}
 use Rattle.turnstile.specs.declared.view.Stage.TheVariants.{Idle, Waiting, Served, Loaded}
 use Rattle.turnstile.specs.declared.view.View.{View}
-use Rattle.turnstile.specs.Histories.{caller, calls_by}
-use Rattle.turnstile.specs.Views.{filed, times}
+use Rattle.turnstile.specs.Histories.{caller}
+use Rattle.turnstile.specs.Views.{filed}
 use Rattle.turnstile.specs.Orderly.{Orderly}
-use Rattle.turnstile.specs.Passes.{IsKept, IsSound, Carries, PassView, is_idle, pass_view}
+use Rattle.turnstile.specs.Passes.{IsKept, Carries, PassView, is_idle, pass_view}
 use Rattle.turnstile.proofs.Beginnings.{own_call, other_call}
 use Rattle.turnstile.proofs.Counts.{not_times}
 use Rattle.turnstile.proofs.Tellings.{Ends, ends}
@@ -49,11 +48,11 @@ module _ {V : Type 0} where
       lawful = lawful;
       own = ap (λ (l : List Entry). l ++ e ∷ []) k.sound.own ∙ sym (own_call n v.seen e own);
       unused = λ zero j le. other_call j v.seen e (λ (q : caller e ≡ j). let a = k.some_made zero in let b : n ≡ j = sym own ∙ q in absurd (omega arith)) ∙ k.sound.unused zero j le;
-      retired = λ zero j x at. let ne : x.number ≢ 0 = not_times 0 v.ended j x (k.lives zero) at in k.sound.retired zero j x at ∙ sym (other_call x.number v.seen e (λ (q : caller e ≡ x.number). ne (sym q ∙ own ∙ zero)))
+      retired = λ zero j x at. let ne : x.number ≢ 0 = not_times 0 v.ended j x (k.lives zero) at in k.sound.retired zero j x at ∙ sym (other_call x.number v.seen e (λ (q : caller e ≡ x.number). ne (sym q ∙ own ∙ zero)));
     };
     some_made = k.some_made;
     lives = k.lives;
-    carries = k.carries
+    carries = k.carries;
   }
 
   pub files_as : (law : Basis → List Entry → Type 0) (z y : TableId) (n m : ℕ) (me after : Me (Place V) View) (p : PassView) (e : Entry) (base : Basis) (log : List Entry) → IsKept law z n m me.0 me.1 → y ≡ z → after ≡ (filed e me.0, me.1) → pass_view z n me.0 ≡ p → base ≡ p.basis → log ≡ p.seen ++ e ∷ [] → caller e ≡ p.number → law base log

@@ -1,7 +1,7 @@
 -- Of a state that meets the rule: who is alone with its number, with its ticket, with the value. And what stays of the rule where one view changes.
-use Rattle.std.proofs.Common.{◌≡◌, ◌≢◌, ℕ, zero, suc, ◌+◌, ◌*◌, ◌/◌, ◌%◌, ◌^◌, ◌<◌, ◌≤◌, List, [], ◌∷◌, ◌++◌, length, set, sym, refl, ap, subst, ◌∙◌, ⊎_elim, arith}
+use Rattle.std.proofs.Common.{◌≡◌, ◌≢◌, ℕ, suc, ◌+◌, ◌*◌, ◌/◌, ◌%◌, ◌<◌, ◌≤◌, List, [], ◌∷◌, ◌++◌, length, set, sym, refl, ap, subst, ◌∙◌, ⊎_elim, arith}
 use Rattle.std.proofs.Math.Nat.{mod-add-div, add-mul-mod_self_left}
-use mathlib.Core.Option.{Option, none, some, some-injective, some-ne-none}
+use mathlib.Core.Option.{some}
 use lib.ListN.{get_elem?}
 use native.Mathlib.Decide.{ℕ_discrete}
 use mathlib.Core.Logic.{dite}
@@ -14,10 +14,9 @@ use Rattle.turnstile.specs.declared.view.Role.TheVariants.{Caller, Noted, Spent}
 use Rattle.turnstile.specs.declared.view.Stage.{Stage}
 use Rattle.turnstile.specs.declared.view.Stage.TheVariants.{Idle, Waiting, Served, Loaded}
 use Rattle.turnstile.specs.declared.view.View.{View}
-use Rattle.turnstile.specs.Histories.{Begins, calls_by}
 use Rattle.turnstile.specs.Views.{total, once_if, numbers_as, lives, has_ticket, waits, has_value, numbered, alive, ticketed, queued, loaded, times, staged, saw}
-use Rattle.turnstile.specs.Orderly.{InTurn, IsInformed, KnowsPasses, IsCaller, Fits, IsHistory, IsRoll, IsLine}
-use Rattle.turnstile.proofs.Counts.{once_yes, once_no, total_set, total_same, share, shares, total_le, total_less, not_times}
+use Rattle.turnstile.specs.Orderly.{InTurn, Fits, IsHistory, IsRoll, IsLine}
+use Rattle.turnstile.proofs.Counts.{once_yes, once_no, total_set, total_same, share, shares, total_le, total_less}
 use Rattle.turnstile.proofs.Beginnings.{begins_self}
 
 -- the next number of a word that counts
@@ -124,7 +123,7 @@ module _ (law : Basis → List Entry → Type 0) (start : Basis) (log : List Ent
     numbers = λ n l. ap (λ (k : ℕ). k + times n ended) (total_same (numbered n) views i v w at (ap (numbers_as n) r)) ∙ roll.numbers n l;
     no_numbers = λ n l. ap (λ (k : ℕ). k + times n ended) (total_same (numbered n) views i v w at (ap (numbers_as n) r)) ∙ roll.no_numbers n l;
     living = ap (λ (k : ℕ). k + length ended) (total_same alive views i v w at (ap lives r)) ∙ roll.living;
-    few = roll.few
+    few = roll.few;
   }
 
   -- and keeps its place in line
@@ -133,7 +132,7 @@ module _ (law : Basis → List Entry → Type 0) (start : Basis) (log : List Ent
     in_line = total_same queued views i v w at p ∙ line.in_line;
     tickets = λ t a b. total_same (ticketed t) views i v w at (q t) ∙ line.tickets t a b;
     old_tickets = λ t a. total_same (ticketed t) views i v w at (q t) ∙ line.old_tickets t a;
-    new_tickets = λ t a. total_same (ticketed t) views i v w at (q t) ∙ line.new_tickets t a
+    new_tickets = λ t a. total_same (ticketed t) views i v w at (q t) ∙ line.new_tickets t a;
   }
 
   -- a pass that draws the next ticket
@@ -149,7 +148,7 @@ module _ (law : Basis → List Entry → Type 0) (start : Basis) (log : List Ent
             (λ e. let f = grows t in let g = idle_ticket t in let h : once_if (serving + waiting) t ≡ 1 = once_yes (serving + waiting) t e in let k = line.new_tickets t in omega arith)
             (λ ne. other t ne ∙ line.tickets t a (let lt : t < serving + waiting = omega arith in lt));
         old_tickets = λ t a. other t (λ e. absurd (omega arith)) ∙ line.old_tickets t a;
-        new_tickets = λ t a. other t (λ e. absurd (omega arith)) ∙ line.new_tickets t (omega arith)
+        new_tickets = λ t a. other t (λ e. absurd (omega arith)) ∙ line.new_tickets t (omega arith);
       }
 
   -- the pass that is served leaves
@@ -165,7 +164,7 @@ module _ (law : Basis → List Entry → Type 0) (start : Basis) (log : List Ent
         old_tickets = λ t a. dite (ℕ_discrete serving t)
             (λ e. let f = falls t in let g = ticket t in let h : once_if serving t ≡ 1 = once_yes serving t e in let k = line.tickets t in omega arith)
             (λ ne. other t ne ∙ line.old_tickets t (omega arith));
-        new_tickets = λ t a. other t (λ e. absurd (omega arith)) ∙ line.new_tickets t (omega arith)
+        new_tickets = λ t a. other t (λ e. absurd (omega arith)) ∙ line.new_tickets t (omega arith);
       }
 
   -- another stage with the same place in line, and the whole history seen
@@ -174,7 +173,7 @@ module _ (law : Basis → List Entry → Type 0) (start : Basis) (log : List Ent
     informed = λ r. let i = f.informed r in record { basis = i.basis; seen = i.seen; was = i.was; told = i.told; lawful = i.lawful };
     calls = λ n r. let c = f.calls n r in record { all = c.all; seen = c.seen; first = λ z. let k = c.first z in record { counts = k.counts; lists = k.lists; ended_seen = k.ended_seen } };
     passes_wait = w;
-    in_turn = t
+    in_turn = t;
   }
 
   pub fits_saw : IsHistory law start log made ended → (v : View) → Fits law start log serving made ended v → InTurn log serving log v.stage → Fits law start log serving made ended (saw log v)
@@ -182,5 +181,5 @@ module _ (law : Basis → List Entry → Type 0) (start : Basis) (log : List Ent
     informed = λ r. let i = f.informed r in record { basis = i.basis; seen = begins_self log; was = i.was; told = i.told; lawful = history.lawful };
     calls = λ n r. let c = f.calls n r in record { all = c.all; seen = c.all; first = λ z. let k = c.first z in record { counts = k.counts; lists = k.lists; ended_seen = history.retired } };
     passes_wait = f.passes_wait;
-    in_turn = t
+    in_turn = t;
   }

@@ -1,10 +1,10 @@
 -- The first state meets the rule, new passes, notes and joins keep it, and what it says at the end.
-use Rattle.std.proofs.Common.{◌≡◌, ◌≢◌, ◌⊎◌, ℕ, zero, suc, ◌+◌, ◌-◌, ◌%◌, ◌^◌, ◌<◌, ◌≤◌, List, [], ◌∷◌, ◌++◌, length, set, sym, refl, ap, subst, ◌∙◌, ⊎_elim, arith, length-append}
-use mathlib.Core.Option.{Option, none, some, some-injective, some-ne-none}
+use Rattle.std.proofs.Common.{◌≡◌, ◌≢◌, ℕ, zero, suc, ◌+◌, ◌<◌, ◌≤◌, List, [], ◌∷◌, ◌++◌, length, set, sym, refl, ap, subst, ◌∙◌, ⊎_elim, arith, length-append}
+use mathlib.Core.Option.{some, some-injective, some-ne-none}
 use lib.ListN.{get_elem?}
 use native.Mathlib.Decide.{ℕ_discrete}
 use mathlib.Core.Logic.{dite}
-use Rattle.atomic_table.proofs.Lists.{at_set, at_snoc, at_longer, set_here, set_else}
+use Rattle.atomic_table.proofs.Lists.{at_snoc, set_else}
 use Rattle.atomic_table.specs.Table.{State, Splits, Joins, opening}
 use Rattle.turnstile.specs.declared.history.Entry.{Entry}
 use Rattle.turnstile.specs.declared.history.Basis.{Basis}
@@ -13,15 +13,14 @@ use Rattle.turnstile.specs.declared.view.Place.{Place}
 use Rattle.turnstile.specs.declared.view.Place.TheVariants.{Full}
 use Rattle.turnstile.specs.declared.view.Role.{Role}
 use Rattle.turnstile.specs.declared.view.Role.TheVariants.{Caller, Noted, Spent}
-use Rattle.turnstile.specs.declared.view.Stage.{Stage}
-use Rattle.turnstile.specs.declared.view.Stage.TheVariants.{Idle, Waiting, Served, Loaded}
+use Rattle.turnstile.specs.declared.view.Stage.TheVariants.{Idle}
 use Rattle.turnstile.specs.declared.view.View.{View}
 use Rattle.turnstile.specs.Histories.{Begins, calls_by, longer}
 use Rattle.turnstile.specs.Views.{total, once_if, numbers_as, lives, has_ticket, waits, has_value, numbered, alive, ticketed, queued, loaded, times, number_of, after_split, newcomer, first_view, split_off, noted, informed, retiring, spent}
 use Rattle.atomic_table.specs.Seated.{TableId}
 use Rattle.turnstile.specs.Passes.{PassView, pass_view}
-use Rattle.turnstile.specs.Orderly.{InTurn, IsInformed, KnowsPasses, IsCaller, Fits, IsHistory, IsRoll, IsLine, Shelved, Orderly}
-use Rattle.turnstile.proofs.Counts.{once_yes, once_no, total_set, total_same, total_snoc, share, total_less, not_times, times_snoc}
+use Rattle.turnstile.specs.Orderly.{InTurn, IsInformed, Fits, IsLine, Shelved, Orderly}
+use Rattle.turnstile.proofs.Counts.{once_yes, once_no, total_set, total_same, total_snoc, total_less, times_snoc}
 use Rattle.turnstile.proofs.Beginnings.{begins_self, none_before, between, longer_is, left_begins, right_begins}
 use Rattle.turnstile.proofs.Standing.{each_set, each_snoc, made_once, other_number, roll_kept, line_kept, number_lives, value_waits}
 
@@ -34,7 +33,7 @@ module _ (serving waiting : ℕ) (views : List View) where
         in_line = (let a : total queued (views ++ w ∷ []) ≡ total queued views + waits w.stage = total_snoc queued views w in let b : waits w.stage ≡ 0 = ap waits idle in let c = line.in_line in omega arith);
         tickets = λ t a b. q t ∙ line.tickets t a b;
         old_tickets = λ t a. q t ∙ line.old_tickets t a;
-        new_tickets = λ t a. q t ∙ line.new_tickets t a
+        new_tickets = λ t a. q t ∙ line.new_tickets t a;
       }
 
 module _ (law : Basis → List Entry → Type 0) (start : Basis) (log : List Entry) (serving made : ℕ) (ended : List Ended) where
@@ -44,7 +43,7 @@ module _ (law : Basis → List Entry → Type 0) (start : Basis) (log : List Ent
     informed = f.informed;
     calls = λ n r. let c = f.calls n r in record { all = c.all; seen = c.seen; first = λ z. absurd (other n r z) };
     passes_wait = f.passes_wait;
-    in_turn = f.in_turn
+    in_turn = f.in_turn;
   }
 
   -- a view that comes, and has seen what a view of the table has
@@ -53,7 +52,7 @@ module _ (law : Basis → List Entry → Type 0) (start : Basis) (log : List Ent
     informed = λ live. record { basis = i.basis; seen = i.seen; was = record { rest = log; whole = refl }; told = record { rest = log; whole = refl }; lawful = i.lawful };
     calls = λ n e. let c = new n e in record { all = sym c.1; seen = sym (none_before n v.seen log i.seen c.1); first = λ z. absurd (c.0 z) };
     passes_wait = (let h : 0 ≤ lives r = omega arith in h);
-    in_turn = tt
+    in_turn = tt;
   }
 
   fits_spent : (m : ℕ) (es : List Ended) → Fits law start log serving m es spent
@@ -66,7 +65,7 @@ module _ (law : Basis → List Entry → Type 0) (start : Basis) (log : List Ent
     seen = longer_is (λ (l : List Entry). Begins l log) v.seen w.seen i.seen j.seen;
     was = i.seen;
     told = j.seen;
-    lawful = longer_is (law start) v.seen w.seen i.lawful j.lawful
+    lawful = longer_is (law start) v.seen w.seen i.lawful j.lawful;
   }
 
   calls_longer : (n : ℕ) (a b : List Entry) → Begins a log → Begins b log → calls_by n a ≡ calls_by n log → calls_by n (longer a b) ≡ calls_by n log
@@ -93,10 +92,10 @@ module _ {V : Type 0} (basis : V → Basis) (entries : V → List Entry) (law : 
           numbers = λ n l. (let z : 0 ≡ n = omega arith in let a : once_if 0 n ≡ 1 = once_yes 0 n z in omega arith);
           no_numbers = λ n l. (let a : once_if 0 n ≡ 0 = once_no 0 n (λ z. absurd (omega arith)) in omega arith);
           living = refl;
-          few = omega arith
+          few = omega arith;
         };
         line = record { in_line = refl; tickets = λ t a b. absurd (omega arith); old_tickets = λ t a. refl; new_tickets = λ t a. refl };
-        shelved = (x, refl, base, empty)
+        shelved = (x, refl, base, empty);
       }
     where
       first_fits : (j : ℕ) (v : View) → get_elem? (first_view start ∷ []) j ≡ some v → law start [] → Fits law start [] 0 1 [] v
@@ -104,7 +103,7 @@ module _ {V : Type 0} (basis : V → Basis) (entries : V → List Entry) (law : 
         informed = λ live. record { basis = refl; seen = begins_self []; was = begins_self []; told = begins_self []; lawful = l };
         calls = λ n e. record { all = refl; seen = refl; first = λ z. record { counts = refl; lists = refl; ended_seen = λ k d got. absurd (some-ne-none d (sym got)) } };
         passes_wait = (let h : 0 ≤ 1 = omega arith in h);
-        in_turn = tt
+        in_turn = tt;
       })
       first_fits (suc j) v at l = absurd (some-ne-none v (sym at))
 
@@ -135,10 +134,10 @@ module _ {V : Type 0} (basis : V → Basis) (entries : V → List Entry) (law : 
           numbers = λ m l. ap (λ (k : ℕ). k + times m o.ended) (all (numbered m) refl) ∙ roll.numbers m l;
           no_numbers = λ m l. ap (λ (k : ℕ). k + times m o.ended) (all (numbered m) refl) ∙ roll.no_numbers m l;
           living = ap (λ (k : ℕ). k + length o.ended) (all alive refl) ∙ roll.living;
-          few = roll.few
+          few = roll.few;
         };
         line = line_snoc o.serving o.waiting (set s.views id v) line w refl;
-        shelved = subst (λ (k : ℕ). Shelved basis entries start o.log k s.homes) (sym (all loaded refl ∙ total_same loaded s.views id v v at refl)) o.shelved
+        shelved = subst (λ (k : ℕ). Shelved basis entries start o.log k s.homes) (sym (all loaded refl ∙ total_same loaded s.views id v v at refl)) o.shelved;
       }
 
   pub splits_pass : (id : ℕ) (v : View) → v.role ≡ Caller 0 → v.made < 255 → Splits (Orderly basis entries law start) id v (after_split v) (split_off v)
@@ -168,23 +167,23 @@ module _ {V : Type 0} (basis : V → Basis) (entries : V → List Entry) (law : 
         each = each_snoc (Fits law start o.log o.serving (suc o.made) o.ended) views w
             (fits_newcomer law start o.log o.serving o.made o.ended (suc o.made) o.ended v (Caller v.made) i (λ m e. let h : v.made ≡ m = cc in ((λ z. absurd (omega arith)), o.history.no_calls m (let l : o.made ≤ m = omega arith in l))))
             (each_set (Fits law start o.log o.serving (suc o.made) o.ended) s.views id x
-                (record {
-                  informed = λ live. record { basis = i.basis; seen = i.seen; was = i.was; told = i.told; lawful = i.lawful };
-                  calls = λ m r. let d = f.calls m r in record { all = d.all; seen = d.seen; first = λ z. let q = d.first z in record { counts = (let g : v.made ≡ o.made = q.counts in let h : v.made + 1 ≡ suc o.made = omega arith in h); lists = q.lists; ended_seen = q.ended_seen } };
-                  passes_wait = f.passes_wait;
-                  in_turn = f.in_turn
-                })
-                (λ j u ne got. fits_others law start o.log o.serving o.made o.ended (suc o.made) o.ended u (o.each j u got) (λ m r. other_number law start o.log o.serving o.waiting o.made o.ended s.views o.roll id j 0 m v u (λ q. ne (sym q)) at got role r)));
+            (record {
+              informed = λ live. record { basis = i.basis; seen = i.seen; was = i.was; told = i.told; lawful = i.lawful };
+              calls = λ m r. let d = f.calls m r in record { all = d.all; seen = d.seen; first = λ z. let q = d.first z in record { counts = (let g : v.made ≡ o.made = q.counts in let h : v.made + 1 ≡ suc o.made = omega arith in h); lists = q.lists; ended_seen = q.ended_seen } };
+              passes_wait = f.passes_wait;
+              in_turn = f.in_turn;
+            })
+            (λ j u ne got. fits_others law start o.log o.serving o.made o.ended (suc o.made) o.ended u (o.each j u got) (λ m r. other_number law start o.log o.serving o.waiting o.made o.ended s.views o.roll id j 0 m v u (λ q. ne (sym q)) at got role r)));
         roll = record {
           numbers = λ m l. dite (ℕ_discrete v.made m)
               (λ e. let a = counted m in let b : once_if v.made m ≡ 1 = once_yes v.made m e in let d = roll.no_numbers m (let le : o.made ≤ m = omega arith in le) in omega arith)
               (λ ne. let a = counted m in let b : once_if v.made m ≡ 0 = once_no v.made m ne in let d = roll.numbers m (let lt : m < o.made = omega arith in lt) in omega arith);
           no_numbers = λ m l. let a = counted m in let b : once_if v.made m ≡ 0 = once_no v.made m (λ e. absurd (omega arith)) in let d = roll.no_numbers m (let le : o.made ≤ m = omega arith in le) in omega arith;
           living = (let a : total alive (views ++ w ∷ []) ≡ total alive views + 1 = total_snoc alive views w in let b = roll.living in omega arith);
-          few = omega arith
+          few = omega arith;
         };
         line = line_snoc o.serving o.waiting views line w refl;
-        shelved = subst (λ (n : ℕ). Shelved basis entries start o.log n s.homes) (sym (total_snoc loaded views w ∙ (let a : total loaded views ≡ total loaded s.views = total_same loaded s.views id v x at refl in let h : total loaded views + 0 ≡ total loaded s.views = omega arith in h))) o.shelved
+        shelved = subst (λ (n : ℕ). Shelved basis entries start o.log n s.homes) (sym (total_snoc loaded views w ∙ (let a : total loaded views ≡ total loaded s.views = total_same loaded s.views id v x at refl in let h : total loaded views + 0 ≡ total loaded s.views = omega arith in h))) o.shelved;
       }
 
   -- a join: the view v becomes x, and the view w is spent
@@ -201,8 +200,8 @@ module _ {V : Type 0} (basis : V → Basis) (entries : V → List Entry) (law : 
     met_line : x.stage ≡ v.stage → w.stage ≡ Idle → IsLine o.serving o.waiting (set (set s.views id x) other spent)
     met_line same idle =
         line_kept law start o.log o.serving o.waiting o.made o.ended (set s.views id x)
-            (line_kept law start o.log o.serving o.waiting o.made o.ended s.views o.line id v x at (ap waits same) (λ t. ap (has_ticket t) same))
-            other w spent there (sym (ap waits idle)) (λ t. sym (ap (has_ticket t) idle))
+        (line_kept law start o.log o.serving o.waiting o.made o.ended s.views o.line id v x at (ap waits same) (λ t. ap (has_ticket t) same))
+        other w spent there (sym (ap waits idle)) (λ t. sym (ap (has_ticket t) idle))
 
     met_shelved : x.stage ≡ v.stage → w.stage ≡ Idle → Shelved basis entries start o.log (total loaded (set (set s.views id x) other spent)) s.homes
     met_shelved same idle = subst (λ (k : ℕ). Shelved basis entries start o.log k s.homes) (sym (total_same loaded (set s.views id x) other w spent there (sym (ap has_value idle)) ∙ total_same loaded s.views id v x at (ap has_value same))) o.shelved
@@ -237,21 +236,21 @@ module _ {V : Type 0} (basis : V → Basis) (entries : V → List Entry) (law : 
                     first = λ z. let k = c.first z in record {
                       counts = k.counts;
                       lists = k.lists;
-                      ended_seen = λ q e got. o.history.retired q e got ∙ sym (calls_longer law start o.log o.serving o.made o.ended e.number v.seen w.seen i.seen j.seen (sym (k.ended_seen q e got) ∙ o.history.retired q e got))
-                    }
+                      ended_seen = λ q e got. o.history.retired q e got ∙ sym (calls_longer law start o.log o.serving o.made o.ended e.number v.seen w.seen i.seen j.seen (sym (k.ended_seen q e got) ∙ o.history.retired q e got));
+                    };
                   };
               passes_wait = f.passes_wait;
-              in_turn = subst (InTurn o.log o.serving (longer v.seen w.seen)) (sym free) tt
+              in_turn = subst (InTurn o.log o.serving (longer v.seen w.seen)) (sym free) tt;
             })
             (λ q u ne got. o.each q u got);
         roll = record {
           numbers = λ m l. ap (λ (k : ℕ). k + times m o.ended) (total_is (numbered m) refl refl (ap (numbers_as m) note)) ∙ o.roll.numbers m l;
           no_numbers = λ m l. ap (λ (k : ℕ). k + times m o.ended) (total_is (numbered m) refl refl (ap (numbers_as m) note)) ∙ o.roll.no_numbers m l;
           living = ap (λ (k : ℕ). k + length o.ended) (total_is alive refl refl (ap lives note)) ∙ o.roll.living;
-          few = o.roll.few
+          few = o.roll.few;
         };
         line = met_line s o id other n v w x at apart there refl idle;
-        shelved = met_shelved s o id other n v w x at apart there refl idle
+        shelved = met_shelved s o id other n v w x at apart there refl idle;
       }
 
   pub joins_pass : (id other n : ℕ) (v w : View) → v.role ≡ Caller 0 → v.stage ≡ Idle → w.role ≡ Caller n → w.stage ≡ Idle → Joins (Orderly basis entries law start) id v other w (retiring v w) spent
@@ -271,11 +270,11 @@ module _ {V : Type 0} (basis : V → Basis) (entries : V → List Entry) (law : 
       let his_calls : w.mine ≡ calls_by (number_of w.role) o.log = his.all ∙ ap (λ (k : ℕ). calls_by k o.log) (sym number) in
       let his_seen : calls_by (number_of w.role) w.seen ≡ calls_by (number_of w.role) o.log = ap (λ (k : ℕ). calls_by k w.seen) number ∙ sym his.seen ∙ his_calls in
       let counted : (m : ℕ) → total (numbered m) (set (set s.views id x) other spent) + times m es ≡ total (numbered m) s.views + times m o.ended = λ m.
-          let a = met_total s o id other n v w x at apart there (numbered m) refl refl in
-          let b : numbers_as m w.role ≡ once_if n m = ap (numbers_as m) pass in
-          let c : times m es ≡ times m o.ended + once_if (number_of w.role) m = times_snoc m o.ended d in
-          let e : once_if (number_of w.role) m ≡ once_if n m = ap (λ (k : ℕ). once_if k m) number in
-          omega arith in
+      let a = met_total s o id other n v w x at apart there (numbered m) refl refl in
+      let b : numbers_as m w.role ≡ once_if n m = ap (numbers_as m) pass in
+      let c : times m es ≡ times m o.ended + once_if (number_of w.role) m = times_snoc m o.ended d in
+      let e : once_if (number_of w.role) m ≡ once_if n m = ap (λ (k : ℕ). once_if k m) number in
+      omega arith in
       record {
         log = o.log;
         serving = o.serving;
@@ -288,7 +287,7 @@ module _ {V : Type 0} (basis : V → Basis) (entries : V → List Entry) (law : 
           lawful = o.history.lawful;
           short = o.history.short;
           no_calls = o.history.no_calls;
-          retired = λ k e got. ⊎_elim (λ old. o.history.retired k e old) (λ (new : d ≡ e). subst (λ (z : Ended). z.calls ≡ calls_by z.number o.log) new his_calls) (at_snoc o.ended d e k got)
+          retired = λ k e got. ⊎_elim (λ old. o.history.retired k e old) (λ (new : d ≡ e). subst (λ (z : Ended). z.calls ≡ calls_by z.number o.log) new his_calls) (at_snoc o.ended d e k got);
         };
         each = met_each s o id other n v w x at apart there o.made es
             (record {
@@ -304,11 +303,11 @@ module _ {V : Type 0} (basis : V → Basis) (entries : V → List Entry) (law : 
                       ended_seen = λ q e got. ⊎_elim
                           (λ old. o.history.retired q e old ∙ sym (calls_longer law start o.log o.serving o.made o.ended e.number v.seen w.seen i.seen j.seen (sym (first.ended_seen q e old) ∙ o.history.retired q e old)))
                           (λ (new : d ≡ e). subst (λ (z : Ended). z.calls ≡ calls_by z.number (longer v.seen w.seen)) new (his_calls ∙ sym (calls_longer_right law start o.log o.serving o.made o.ended (number_of w.role) v.seen w.seen i.seen j.seen his_seen)))
-                          (at_snoc o.ended d e q got)
-                    }
+                          (at_snoc o.ended d e q got);
+                    };
                   };
               passes_wait = f.passes_wait;
-              in_turn = subst (InTurn o.log o.serving (longer v.seen w.seen)) (sym free) tt
+              in_turn = subst (InTurn o.log o.serving (longer v.seen w.seen)) (sym free) tt;
             })
             (λ q u ne got. fits_others law start o.log o.serving o.made o.ended o.made es u (o.each q u got) (λ m r. other_number law start o.log o.serving o.waiting o.made o.ended s.views o.roll id q 0 m v u (λ h. ne (sym h)) at got role r));
         roll = record {
@@ -320,10 +319,10 @@ module _ {V : Type 0} (basis : V → Basis) (entries : V → List Entry) (law : 
               let c : length es ≡ length o.ended + 1 = length-append o.ended (d ∷ []) in
               let e = o.roll.living in
               omega arith);
-          few = o.roll.few
+          few = o.roll.few;
         };
         line = met_line s o id other n v w x at apart there refl idle;
-        shelved = met_shelved s o id other n v w x at apart there refl idle
+        shelved = met_shelved s o id other n v w x at apart there refl idle;
       }
 
 -- what a closed turnstile's value x has to do with its pass 0
@@ -371,8 +370,7 @@ module _ {V : Type 0} (basis : V → Basis) (entries : V → List Entry) (law : 
       let c = f.calls 0 role in
       let first = c.first refl in
       let home = subst (λ (k : ℕ). Shelved basis entries start o.log k s.homes) none_out o.shelved in
-      let same : entries home.0 ≡ o.log = home.3 in
-      (
+      let same : entries home.0 ≡ o.log = home.3 in (
         home.0,
         home.1,
         record {
@@ -381,6 +379,6 @@ module _ {V : Type 0} (basis : V → Basis) (entries : V → List Entry) (law : 
           lawful = subst (λ (b : Basis). law b (entries home.0)) (sym home.2) (subst (law start) (sym same) o.history.lawful);
           mine = ap (calls_by 0) same ∙ sym c.all;
           ended = λ k e got. ap (calls_by e.number) same ∙ sym (o.history.retired k e (subst (λ (es : List Ended). get_elem? es k ≡ some e) first.lists got));
-          others = λ m ne away. ap (calls_by m) same ∙ no_others m ne away
+          others = λ m ne away. ap (calls_by m) same ∙ no_others m ne away;
         },
       )

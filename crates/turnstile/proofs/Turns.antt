@@ -1,25 +1,25 @@
 -- Each step of a turn keeps the rule: draw, look, front, take, file, leave, and the setting of a bell.
-use Rattle.std.proofs.Common.{◌≡◌, ◌≢◌, ◌⊎◌, ℕ, zero, suc, ◌+◌, ◌-◌, ◌%◌, ◌^◌, ◌<◌, ◌≤◌, eqb, eq-eqb, List, [], ◌∷◌, ◌++◌, length, slice_index, slice_set, set, sym, refl, ap, subst, ◌∙◌, inl, inr, arith, length-append}
-use mathlib.Core.Option.{Option, none, some, some-injective}
+use Rattle.std.proofs.Common.{◌≡◌, ◌≢◌, ℕ, zero, suc, ◌+◌, ◌-◌, ◌%◌, ◌^◌, ◌<◌, ◌≤◌, eqb, eq-eqb, List, [], ◌∷◌, ◌++◌, length, slice_index, slice_set, set, sym, refl, ap, subst, ◌∙◌, inl, inr, arith, length-append}
+use mathlib.Core.Option.{Option, none, some}
 use lib.ListN.{get_elem?}
 use native.Mathlib.Decide.{ℕ_discrete}
 use mathlib.Core.Logic.{dite}
 use prog.Atomic.{either}
 use Rattle.std.specs.declared.snapshot.Snapshot.{Snapshot}
 use Rattle.atomic_table.proofs.Lists.{one_turn}
-use Rattle.atomic_table.specs.Table.{State, Me, step, Act, keeps, takes, gives, Allows, put_back}
+use Rattle.atomic_table.specs.Table.{State, Me, step, keeps, takes, gives, Allows, put_back}
 use Rattle.turnstile.specs.declared.history.Entry.{Entry}
 use Rattle.turnstile.specs.declared.history.Basis.{Basis}
 use Rattle.turnstile.specs.declared.view.Ended.{Ended}
 use Rattle.turnstile.specs.declared.view.Place.{Place}
 use Rattle.turnstile.specs.declared.view.Place.TheVariants.{Full, Shown}
-use Rattle.turnstile.specs.declared.view.Role.TheVariants.{Caller, Noted, Spent}
+use Rattle.turnstile.specs.declared.view.Role.TheVariants.{Caller, Spent}
 use Rattle.turnstile.specs.declared.view.Stage.{Stage}
 use Rattle.turnstile.specs.declared.view.Stage.TheVariants.{Idle, Waiting, Served, Loaded}
 use Rattle.turnstile.specs.declared.view.View.{View}
 use Rattle.turnstile.specs.Histories.{Begins, caller, calls_by}
 use Rattle.turnstile.specs.Views.{total, once_if, lives, has_ticket, waits, has_value, loaded, times, staged, saw, filed}
-use Rattle.turnstile.specs.Orderly.{InTurn, IsInformed, KnowsPasses, IsCaller, Fits, IsHistory, IsRoll, IsLine, Shelved, Orderly}
+use Rattle.turnstile.specs.Orderly.{InTurn, Fits, IsHistory, IsLine, Shelved, Orderly}
 use Rattle.turnstile.specs.Steps.{Sights, Draws, Looks, Leaves, Rings, Fronts, Takes, Files}
 use Rattle.turnstile.proofs.Counts.{once_yes, total_set, total_same, share, not_times}
 use Rattle.turnstile.proofs.Beginnings.{begins_self, begins_more, snoc_same, own_call, other_call}
@@ -51,7 +51,7 @@ module _ (law : Basis → List Entry → Type 0) (start : Basis) (log : List Ent
     lawful = lawful;
     short = short;
     no_calls = λ m le. other_call m log e (λ (q : caller e ≡ m). let r : n ≡ m = sym same ∙ q in absurd (omega arith)) ∙ h.no_calls m le;
-    retired = retired_longer same away h.retired
+    retired = retired_longer same away h.retired;
   }
 
   -- the view of another pass, a note or a spent view
@@ -60,7 +60,7 @@ module _ (law : Basis → List Entry → Type 0) (start : Basis) (log : List Ent
     informed = λ r. let i = f.informed r in record { basis = i.basis; seen = begins_more u.seen log e i.seen; was = begins_more u.was log e i.was; told = begins_more u.told log e i.told; lawful = i.lawful };
     calls = λ m r. let c = f.calls m r in record { all = c.all ∙ sym (other_call m log e (λ q. other m r (sym q ∙ same))); seen = c.seen; first = c.first };
     passes_wait = f.passes_wait;
-    in_turn = not_served log (log ++ e ∷ []) serving serving u.seen u.stage f.in_turn away
+    in_turn = not_served log (log ++ e ∷ []) serving serving u.seen u.stage f.in_turn away;
   }
 
   -- the view of the pass itself
@@ -73,7 +73,7 @@ module _ (law : Basis → List Entry → Type 0) (start : Basis) (log : List Ent
           seen = subst (λ (l : List Entry). Begins l (log ++ e ∷ [])) (sym grown) (begins_self (log ++ e ∷ []));
           was = begins_more v.was log e i.was;
           told = begins_more v.told log e i.told;
-          lawful = subst (law start) (sym grown) h.lawful
+          lawful = subst (law start) (sym grown) h.lawful;
         };
         calls = λ m r.
             let c = f.calls m r in
@@ -81,10 +81,10 @@ module _ (law : Basis → List Entry → Type 0) (start : Basis) (log : List Ent
             record {
               all = mine;
               seen = mine ∙ ap (calls_by m) (sym grown);
-              first = λ z. let k = c.first z in record { counts = k.counts; lists = k.lists; ended_seen = λ j x at. h.retired j x at ∙ ap (calls_by x.number) (sym grown) }
+              first = λ z. let k = c.first z in record { counts = k.counts; lists = k.lists; ended_seen = λ j x at. h.retired j x at ∙ ap (calls_by x.number) (sym grown) };
             };
         passes_wait = f.passes_wait;
-        in_turn = subst (InTurn (log ++ e ∷ []) serving (v.seen ++ e ∷ [])) (sym has) (refl, grown)
+        in_turn = subst (InTurn (log ++ e ∷ []) serving (v.seen ++ e ∷ [])) (sym has) (refl, grown);
       }
 
 module _ {V : Type 0} (basis : V → Basis) (entries : V → List Entry) (law : Basis → List Entry → Type 0) (start : Basis) where
@@ -117,7 +117,7 @@ module _ {V : Type 0} (basis : V → Basis) (entries : V → List Entry) (law : 
     each = each;
     roll = roll_kept law start o.log serving waiting o.made o.ended s.views o.roll id v w at role;
     line = line;
-    shelved = shelved
+    shelved = shelved;
   }
 
   -- the other views, where nothing of theirs changes
@@ -129,8 +129,7 @@ module _ {V : Type 0} (basis : V → Basis) (entries : V → List Entry) (law : 
       let t : ℕ = o.serving + o.waiting in
       let w : View = staged (Waiting t) me.0 in
       let l : lives me.0.role ≡ 1 = ap lives role in
-      let next : ((o.serving + o.waiting) % 2 ^ 64 + 1) % 2 ^ 64 ≡ (o.serving + suc o.waiting) % 2 ^ 64 = mod_next t (2 ^ 64) ∙ ap (λ (k : ℕ). k % 2 ^ 64) (let h : t + 1 ≡ o.serving + suc o.waiting = omega arith in h) in
-      (
+      let next : ((o.serving + o.waiting) % 2 ^ 64 + 1) % 2 ^ 64 ≡ (o.serving + suc o.waiting) % 2 ^ 64 = mod_next t (2 ^ 64) ∙ ap (λ (k : ℕ). k % 2 ^ 64) (let h : t + 1 ≡ o.serving + suc o.waiting = omega arith in h) in (
         w,
         keeps,
         tt,
@@ -147,15 +146,14 @@ module _ {V : Type 0} (basis : V → Basis) (entries : V → List Entry) (law : 
   unchanged : (s : State (Place V) View) (o : Orderly basis entries law start s) (id : ℕ) (v : View) → get_elem? s.views id ≡ some v → (bells ws : List ℕ) → ws ≡ (o.serving + o.waiting) % 2 ^ 64 ∷ o.serving % 2 ^ 64 ∷ length o.log ∷ bells → Orderly basis entries law start (record { words = ws; homes = s.homes; views = set s.views id v })
   unchanged s o id v at bells ws words =
       kept s o id v v at o.serving o.waiting bells ws s.homes words refl
-          (others s o id v (o.each id v at))
-          (line_kept law start o.log o.serving o.waiting o.made o.ended s.views o.line id v v at refl (λ t. refl))
-          (shelf_moves o.log (total loaded s.views) _ s.homes (total_same loaded s.views id v v at refl) o.shelved)
+      (others s o id v (o.each id v at))
+      (line_kept law start o.log o.serving o.waiting o.made o.ended s.views o.line id v v at refl (λ t. refl))
+      (shelf_moves o.log (total loaded s.views) _ s.homes (total_same loaded s.views id v v at refl) o.shelved)
 
   pub rings : (slots id b new : ℕ) (me : Me (Place V) View) → 3 ≤ b → Allows (Orderly basis entries law start) slots id me b (λ _. new) (λ _. Rings (step slots b new 0 none) me new)
   rings slots id b new me far s o homes at bound =
       let k : ℕ = b - 3 in
-      let e : b ≡ suc (suc (suc k)) = omega arith in
-      (
+      let e : b ≡ suc (suc (suc k)) = omega arith in (
         me.0,
         keeps,
         tt,
@@ -169,25 +167,24 @@ module _ {V : Type 0} (basis : V → Basis) (entries : V → List Entry) (law : 
       let words : slice_set s.words 1 (slice_index s.words 1) ≡ (o.serving + o.waiting) % 2 ^ 64 ∷ o.serving % 2 ^ 64 ∷ length o.log ∷ o.bells = ap (λ (ws : List ℕ). slice_set ws 1 (slice_index ws 1)) o.words in
       let w : View = staged (Served t) me.0 in
       dite (ℕ_discrete (slice_index s.words 1) (t % 2 ^ 64))
-        (λ e.
-            let mine : has_ticket t me.0.stage ≡ 1 = ap (has_ticket t) waits_t ∙ once_yes t t refl in
-            let lined = in_line law start o.log o.serving o.waiting o.made o.ended s.views o.line id t me.0 at mine in
-            let above : o.serving ≤ t = lined.0 in
-            let below : t < o.serving + o.waiting = lined.1 in
-            let few : o.waiting ≤ 255 = few_wait law start o.log o.serving o.waiting o.made o.ended s.views o.each o.roll o.line in
-            let same : o.serving ≡ t = one_turn o.serving t (2 ^ 64) above (omega arith) (sym found ∙ e) in
-            let l : lives me.0.role ≡ 1 = ap lives role in
-            (
-              w,
-              keeps,
-              tt,
-              kept s o id me.0 w at o.serving o.waiting o.bells _ _ words refl
-                  (others s o id w (fits_staged law start o.log o.serving o.waiting o.made o.ended s.views (Served t) me.0 (o.each id me.0 at) (omega arith) (sym same)))
-                  (line_kept law start o.log o.serving o.waiting o.made o.ended s.views o.line id me.0 w at (sym (ap waits waits_t)) (λ k. sym (ap (has_ticket k) waits_t)))
-                  (shelf_moves o.log (total loaded s.views) _ s.homes (total_same loaded s.views id me.0 w at (sym (ap has_value waits_t))) o.shelved),
-              (λ u waits_u. let same_ticket : t ≡ u = cc in inl (e ∙ ap (λ (k : ℕ). k % 2 ^ 64) same_ticket, ap (λ (k : ℕ). (staged (Served k) me.0, me.1)) same_ticket)),
-            ))
-        (λ ne. (me.0, keeps, tt, unchanged s o id me.0 at o.bells _ words, (λ u waits_u. let same_ticket : t ≡ u = cc in inr ((λ e. ne (e ∙ ap (λ (k : ℕ). k % 2 ^ 64) (sym same_ticket))), refl))))
+      (λ e.
+      let mine : has_ticket t me.0.stage ≡ 1 = ap (has_ticket t) waits_t ∙ once_yes t t refl in
+      let lined = in_line law start o.log o.serving o.waiting o.made o.ended s.views o.line id t me.0 at mine in
+      let above : o.serving ≤ t = lined.0 in
+      let below : t < o.serving + o.waiting = lined.1 in
+      let few : o.waiting ≤ 255 = few_wait law start o.log o.serving o.waiting o.made o.ended s.views o.each o.roll o.line in
+      let same : o.serving ≡ t = one_turn o.serving t (2 ^ 64) above (omega arith) (sym found ∙ e) in
+      let l : lives me.0.role ≡ 1 = ap lives role in (
+        w,
+        keeps,
+        tt,
+        kept s o id me.0 w at o.serving o.waiting o.bells _ _ words refl
+            (others s o id w (fits_staged law start o.log o.serving o.waiting o.made o.ended s.views (Served t) me.0 (o.each id me.0 at) (omega arith) (sym same)))
+            (line_kept law start o.log o.serving o.waiting o.made o.ended s.views o.line id me.0 w at (sym (ap waits waits_t)) (λ k. sym (ap (has_ticket k) waits_t)))
+            (shelf_moves o.log (total loaded s.views) _ s.homes (total_same loaded s.views id me.0 w at (sym (ap has_value waits_t))) o.shelved),
+        (λ u waits_u. let same_ticket : t ≡ u = cc in inl (e ∙ ap (λ (k : ℕ). k % 2 ^ 64) same_ticket, ap (λ (k : ℕ). (staged (Served k) me.0, me.1)) same_ticket)),
+      ))
+      (λ ne. (me.0, keeps, tt, unchanged s o id me.0 at o.bells _ words, (λ u waits_u. let same_ticket : t ≡ u = cc in inr ((λ e. ne (e ∙ ap (λ (k : ℕ). k % 2 ^ 64) (sym same_ticket))), refl))))
 
   -- the view of a pass that sees the whole history
   sighted : (s : State (Place V) View) (o : Orderly basis entries law start s) (id n : ℕ) (v : View) → get_elem? s.views id ≡ some v → v.role ≡ Caller n → Sights law v (slice_index s.words 2) o.log
@@ -208,13 +205,12 @@ module _ {V : Type 0} (basis : V → Basis) (entries : V → List Entry) (law : 
         some_made = λ r. let k = (f.calls 0 r).first refl in subst (λ (j : ℕ). 0 < j) (sym k.counts) (made_once law start o.log o.serving o.waiting o.made o.ended s.views o.roll id 0 v at r).0;
         lives = λ r. let k = (f.calls 0 r).first refl in ap (times 0) k.lists ∙ (made_once law start o.log o.serving o.waiting o.made o.ended s.views o.roll id 0 v at r).1;
         unused = λ r m le. let k = (f.calls 0 r).first refl in o.history.no_calls m (subst (λ (j : ℕ). j ≤ m) k.counts le);
-        retired = λ r j x get. let k = (f.calls 0 r).first refl in o.history.retired j x (subst (λ (es : List Ended). get_elem? es j ≡ some x) k.lists get)
+        retired = λ r j x get. let k = (f.calls 0 r).first refl in o.history.retired j x (subst (λ (es : List Ended). get_elem? es j ≡ some x) k.lists get);
       }
 
   pub sees : (slots id n : ℕ) (me : Me (Place V) View) → me.0.role ≡ Caller n → me.0.stage ≡ Idle → Allows (Orderly basis entries law start) slots id me 2 (λ k. k) (Fronts law (step slots 2 0 0 none) me)
   sees slots id n me role idle s o homes at bound =
-      let w : View = saw o.log me.0 in
-      (
+      let w : View = saw o.log me.0 in (
         w,
         keeps,
         tt,
@@ -236,8 +232,7 @@ module _ {V : Type 0} (basis : V → Basis) (entries : V → List Entry) (law : 
       let home = shelf_moves o.log (total loaded s.views) 0 s.homes (sym none_out) o.shelved in
       let grows : total loaded (set s.views id w) + has_value me.0.stage ≡ total loaded s.views + 1 = total_set loaded s.views id me.0 w at in
       let l : lives me.0.role ≡ 1 = ap lives role in
-      let lives_on : me.0.role ≢ Spent = λ z. let h : Caller n ≡ Spent = sym role ∙ z in cc in
-      (
+      let lives_on : me.0.role ≢ Spent = λ z. let h : Caller n ≡ Spent = sym role ∙ z in cc in (
         w,
         takes 0 (Full home.0),
         ap (λ (hs : List (Option (Place V))). get_elem? hs 0) home.1,
@@ -266,8 +261,7 @@ module _ {V : Type 0} (basis : V → Basis) (entries : V → List Entry) (law : 
       let falls : total loaded (set s.views id w) + has_value me.0.stage ≡ total loaded s.views + 0 = total_set loaded s.views id me.0 w at in
       let away : s.homes ≡ none ∷ [] = out o.log (total loaded s.views) s.homes (omega arith) o.shelved in
       let sum : o.serving + o.waiting ≡ suc o.serving + fewer = omega arith in
-      let next : (o.serving % 2 ^ 64 + 1) % 2 ^ 64 ≡ suc o.serving % 2 ^ 64 = mod_next o.serving (2 ^ 64) ∙ ap (λ (k : ℕ). k % 2 ^ 64) (let h : o.serving + 1 ≡ suc o.serving = omega arith in h) in
-      (
+      let next : (o.serving % 2 ^ 64 + 1) % 2 ^ 64 ≡ suc o.serving % 2 ^ 64 = mod_next o.serving (2 ^ 64) ∙ ap (λ (k : ℕ). k % 2 ^ 64) (let h : o.serving + 1 ≡ suc o.serving = omega arith in h) in (
         w,
         gives,
         tt,
@@ -275,8 +269,8 @@ module _ {V : Type 0} (basis : V → Basis) (entries : V → List Entry) (law : 
             (ap (λ (ws : List ℕ). slice_set ws 1 ((slice_index ws 1 + 1) % 2 ^ 64)) o.words ∙ ap (λ (k : ℕ). (o.serving + o.waiting) % 2 ^ 64 ∷ k ∷ length o.log ∷ o.bells) next ∙ ap (λ (k : ℕ). k % 2 ^ 64 ∷ suc o.serving % 2 ^ 64 ∷ length o.log ∷ o.bells) sum)
             refl
             (each_set (Fits law start o.log (suc o.serving) o.made o.ended) s.views id w
-                (fits_next law start o.log o.serving (suc o.serving) o.made o.ended w (fits_staged law start o.log o.serving o.waiting o.made o.ended s.views Idle me.0 f (omega arith) tt) tt)
-                (λ j u ne got. fits_next law start o.log o.serving (suc o.serving) o.made o.ended u (o.each j u got) (not_served o.log o.log o.serving (suc o.serving) u.seen u.stage (o.each j u got).in_turn (alone law start o.log o.serving o.waiting o.made o.ended s.views o.line id j me.0 u (λ h. ne (sym h)) at got mine))))
+            (fits_next law start o.log o.serving (suc o.serving) o.made o.ended w (fits_staged law start o.log o.serving o.waiting o.made o.ended s.views Idle me.0 f (omega arith) tt) tt)
+            (λ j u ne got. fits_next law start o.log o.serving (suc o.serving) o.made o.ended u (o.each j u got) (not_served o.log o.log o.serving (suc o.serving) u.seen u.stage (o.each j u got).in_turn (alone law start o.log o.serving o.waiting o.made o.ended s.views o.line id j me.0 u (λ h. ne (sym h)) at got mine))))
             (line_shorter law start o.log o.serving fewer o.made o.ended s.views (subst (λ (k : ℕ). IsLine o.serving k s.views) one_fewer o.line) id me.0 at now)
             (shelf_moves o.log 0 _ _ (omega arith) (x, ap (put_back s.homes) carries ∙ ap (λ (hs : List (Option (Place V))). slice_set hs 0 (some (Full x))) away, same_basis ∙ (f.informed lives_on).basis, same_entries ∙ turn.1)),
         refl,
@@ -302,8 +296,7 @@ module _ {V : Type 0} (basis : V → Basis) (entries : V → List Entry) (law : 
       let some_out : loaded me.0 ≤ total loaded s.views = share loaded s.views id me.0 at in
       let same_total : total loaded (set s.views id w) ≡ total loaded s.views = total_same loaded s.views id me.0 w at refl in
       let given = made_once law start o.log o.serving o.waiting o.made o.ended s.views o.roll id n me.0 at role in
-      let h : IsHistory law start (o.log ++ e ∷ []) o.made o.ended = history_longer law start o.log o.made o.ended n e o.history own given.0 given.1 (subst (λ (b : Basis). law b (o.log ++ e ∷ [])) base (subst (law (basis x.value)) grown lawful)) (omega arith) in
-      (
+      let h : IsHistory law start (o.log ++ e ∷ []) o.made o.ended = history_longer law start o.log o.made o.ended n e o.history own given.0 given.1 (subst (λ (b : Basis). law b (o.log ++ e ∷ [])) base (subst (law (basis x.value)) grown lawful)) (omega arith) in (
         w,
         keeps,
         tt,
@@ -319,11 +312,11 @@ module _ {V : Type 0} (basis : V → Basis) (entries : V → List Entry) (law : 
           each = each_set (Fits law start (o.log ++ e ∷ []) o.serving o.made o.ended) s.views id w
               (fits_filed law start o.log o.made o.ended n e o.serving me.0 f role now turn.1 own given.1 h)
               (λ j u ne got. fits_longer law start o.log o.made o.ended n e o.serving u (o.each j u got)
-                  (alone law start o.log o.serving o.waiting o.made o.ended s.views o.line id j me.0 u (λ q. ne (sym q)) at got mine)
-                  (λ m r. other_number law start o.log o.serving o.waiting o.made o.ended s.views o.roll id j n m me.0 u (λ q. ne (sym q)) at got role r) own);
+              (alone law start o.log o.serving o.waiting o.made o.ended s.views o.line id j me.0 u (λ q. ne (sym q)) at got mine)
+              (λ m r. other_number law start o.log o.serving o.waiting o.made o.ended s.views o.roll id j n m me.0 u (λ q. ne (sym q)) at got role r) own);
           roll = roll_kept law start o.log o.serving o.waiting o.made o.ended s.views o.roll id me.0 w at refl;
           line = line_kept law start o.log o.serving o.waiting o.made o.ended s.views o.line id me.0 w at refl (λ k. refl);
-          shelved = is_out (o.log ++ e ∷ []) _ _ (omega arith) (out o.log (total loaded s.views) s.homes (omega arith) o.shelved)
+          shelved = is_out (o.log ++ e ∷ []) _ _ (omega arith) (out o.log (total loaded s.views) s.homes (omega arith) o.shelved);
         },
         (λ y d said shows. let same : x ≡ y = cc in let one : d ≡ e = snoc_same me.0.seen d e (sym shows ∙ ap (λ (z : Snapshot V). entries z.value) (sym same) ∙ same_entries) in ap (λ (z : Entry). (filed z me.0, me.1)) (sym one)),
       )

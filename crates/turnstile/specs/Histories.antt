@@ -1,5 +1,5 @@
 -- Histories: lists of entries, which only grow.
-use Rattle.std.specs.Prelude.{◌≡◌, ℕ, ◌/◌, ◌<◌, ◌==◌, ltb, List, [], ◌∷◌, ◌++◌, length, filter, if◌then◌else◌}
+use Rattle.std.specs.Prelude.{◌≡◌, ℕ, ◌/◌, ◌==◌, ltb, List, ◌++◌, length, filter, if◌then◌else◌}
 use Rattle.turnstile.specs.declared.history.Entry.{Entry}
 
 -- the long history begins with the short one. A record, so that lemmas find its arguments

@@ -1,6 +1,6 @@
 -- What each step tells the one who makes it.
 use Rattle.std.specs.Prelude.{◌≡◌, ◌≢◌, ℕ, ◌%◌, ◌^◌, ◌<◌, ◌≤◌, ◌⊎◌, List, [], ◌∷◌, ◌++◌, length}
-use mathlib.Core.Option.{Option, none, some}
+use mathlib.Core.Option.{some}
 use lib.ListN.{get_elem?}
 use Rattle.std.specs.declared.snapshot.Snapshot.{Snapshot}
 use Rattle.atomic_table.specs.Table.{Me, Step, rest}

@@ -1,6 +1,6 @@
 //! A value that keeps a vector of words, in turns of one thread and of two.
 ghost use Rattle.std.specs.Prelude.{◌≡◌, ℕ, ◌+◌, ◌*◌, ◌/◌, ◌<◌, ◌^◌, true, [], ◌∷◌, ◌++◌, OnOk, OnErr, IfOk, length};
-ghost use Rattle.turnstile.specs.Passes.{IsIdleAt, IsSamePass};
+ghost use Rattle.turnstile.specs.Passes.{IsIdleAt, IsSamePass, one_more};
 ghost use denote.Param.Send.{IsSync};
 
 use crate::{Historied, Note, Pass, Turnstile};
@@ -118,7 +118,10 @@ fn file_in_two_threads<R: Threads + Wait + Sync>(
     gate: &Turnstile<Words>,
     one: Pass<Words>,
     two: Pass<Words>,
-) -> ((Pass<Words>, Result<(), AllocError>), (Pass<Words>, Result<(), AllocError>))
+) -> (
+    (Pass<Words>, Result<(), AllocError>),
+    (Pass<Words>, Result<(), AllocError>),
+)
     requires one { IsIdleAt gate.now one × (one.number ≡ 1) }
     requires two { IsIdleAt gate.now two × (two.number ≡ 2) }
     ensures one { IsIdleAt gate.now result.0.0 }
@@ -135,6 +138,66 @@ fn file_in_two_threads<R: Threads + Wait + Sync>(
             ensures { IsIdleAt gate.entry.now result.0 }
         { file_many(rt, gate, two, 2) },
     )
+}
+
+/// Files a word and writes a note, in which the word is seen.
+fn tell(
+    rt: &impl Wait,
+    gate: &Turnstile<Words>,
+    mut pass: Pass<Words>,
+    word: u64,
+) -> (Pass<Words>, Note<Words>)
+    requires idle { IsIdleAt gate.now pass }
+    requires number { word / 72057594037927936 ≡ pass.number }
+    ensures idle { IsIdleAt gate.now result.0 × (result.0.number ≡ pass.number) }
+    ensures note { result.1.turnstile ≡ gate.now }
+{
+    let _ = file_word(rt, gate, &mut pass, word);
+    let note = gate.note(&mut pass);
+    (pass, note)
+}
+
+/// How many entries the pass has seen once it has met the note.
+fn hear(gate: &Turnstile<Words>, mut pass: Pass<Words>, note: Note<Words>) -> (Pass<Words>, u32)
+    requires idle { IsIdleAt gate.now pass × (note.turnstile ≡ gate.now) }
+    ensures idle { IsIdleAt gate.now result.0 × (result.0.number ≡ pass.number) }
+{
+    gate.meet(&mut pass, note);
+    let front = gate.front(&mut pass);
+    (pass, front)
+}
+
+/// One thread tells, then another hears of it, while a third pass is split off.
+fn pass_on<R: Threads + Wait + Sync>(
+    rt: &R,
+    gate: &Turnstile<Words>,
+    first: &mut Pass<Words>,
+    one: Pass<Words>,
+) -> (Pass<Words>, Pass<Words>, u32)
+    requires one { IsIdleAt gate.now one × (one.number ≡ 1) }
+    requires first { IsIdleAt gate.now first.old × (first.old.number ≡ 0) × (first.old.made < 255) }
+    ensures one { IsIdleAt gate.now result.0 }
+    ensures two { IsIdleAt gate.now result.1 }
+    ensures first { IsIdleAt gate.now first.new × (first.new ≡ one_more first.old) }
+{
+    let two = gate.split(first);
+    let ((one, note), ()) = join(
+        rt,
+        move || -> (Pass<Words>, Note<Words>)
+            requires { IsSync R.row × IsIdleAt gate.now one × (one.number ≡ 1) }
+            ensures { IsIdleAt gate.entry.now result.0 × (result.1.turnstile ≡ gate.entry.now) }
+        { tell(rt, gate, one, 0x0109000000000002) },
+        || (),
+    );
+    let ((two, front), ()) = join(
+        rt,
+        move || -> (Pass<Words>, u32)
+            requires { IsIdleAt gate.now two × (note.turnstile ≡ gate.now) }
+            ensures { IsIdleAt gate.entry.now result.0 }
+        { hear(gate, two, note) },
+        || (),
+    );
+    (one, two, front)
 }
 
 #[test]
@@ -170,5 +233,19 @@ fn two_threads_file_a_hundred_words_each(rt: HostRuntime) -> Result<(), Fail> {
     assert!(rt; filed_one.is_ok() && filed_two.is_ok() && value.words.len() == 200);
     assert!(rt; count_in_order(value.words.as_slice(), 1) == Some(100));
     assert!(rt; count_in_order(value.words.as_slice(), 2) == Some(100));
+    Ok(())
+}
+
+#[test]
+fn a_note_crosses_threads(rt: HostRuntime) -> Result<(), Fail> {
+    let Ok((gate, mut first)) = Turnstile::new(rt.alloc(), Words::new(rt.alloc())) else {
+        panic!(rt; "there is memory")
+    };
+    let one = gate.split(&mut first);
+    let (one, two, front) = pass_on(&rt, &gate, &mut first, one);
+    gate.retire(&mut first, one);
+    gate.retire(&mut first, two);
+    let value = gate.close(first);
+    assert!(rt; front == 1 && value.words.as_slice() == [0x0109000000000002].as_slice());
     Ok(())
 }

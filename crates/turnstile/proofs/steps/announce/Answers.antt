@@ -4,8 +4,7 @@ use Rattle.turnstile.proofs.steps.announce.Goals as goal
 
 pub compare_exchange_with-requires : goal.compare_exchange_with-requires
 compare_exchange_with-requires g c =
-    let some_entry : length (g.V.Historied.entries c.args.value.now) ≡ length c.args.chair.now.me.0.seen + 1 = ap length c.requires.entry.3 ∙ length-append c.args.chair.now.me.0.seen _ in
-    (
+    let some_entry : length (g.V.Historied.entries c.args.value.now) ≡ length c.args.chair.now.me.0.seen + 1 = ap length c.requires.entry.3 ∙ length-append c.args.chair.now.me.0.seen _ in (
       c.requires.table.0,
       omega arith,
       files g.V.Historied.basis g.V.Historied.entries g.V.Historied.law _ _ _ _ _ _ c.of.result c.requires.entry.1 _ _ c.requires.entry.2 c.requires.loaded.1

@@ -1,4 +1,4 @@
-use Rattle.std.proofs.Common.{[], ◌∷◌, arith, ap, sym, ◌∙◌}
+use Rattle.std.proofs.Common.{◌∷◌, arith, ap, sym, ◌∙◌}
 use Rattle.atomic_table.specs.Table.{Me, rest}
 use Rattle.turnstile.specs.declared.view.Place.TheVariants.{Full}
 use Rattle.turnstile.proofs.Turns.{leaves}

@@ -1,4 +1,4 @@
-use Rattle.std.proofs.Common.{ℕ, arith, ap, sym, ◌∙◌}
+use Rattle.std.proofs.Common.{arith, ap, sym, ◌∙◌}
 use Rattle.turnstile.specs.Passes.{PassView}
 use Rattle.turnstile.specs.declared.view.Role.TheVariants.{Caller}
 use Rattle.turnstile.proofs.Passing.{idle_is, idle_carries}
