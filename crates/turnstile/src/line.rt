@@ -7,8 +7,8 @@ ghost use Rattle.turnstile.specs.declared.view.Stage.TheVariants.{Idle, Served};
 
 use crate::history::Historied;
 use crate::plays::{Chair, Draw, Gate, Look, Ring};
+use std::hint;
 use std::sync::Wait;
-use std::{hint, thread};
 
 /// The word with the next ticket.
 pub const TICKET: usize = 0;
@@ -31,11 +31,8 @@ const AWAKE: u64 = 0;
 /// A bell that a pass sleeps on, or is about to.
 const ASLEEP: u64 = 1;
 
-/// So often a pass looks before it gives its processor away.
-const LOOKS: u32 = 100;
-
-/// So often it looks before it sleeps.
-const PATIENCE: u32 = 120;
+/// So often a pass looks before it sleeps: a short turn of another ends sooner, and a long one is slept through.
+const LOOKS: u32 = 64;
 
 fn bell_of(ticket: u64) -> usize
     ensures { (3 ≤ result) × (result < 259) }
@@ -73,7 +70,7 @@ fn wait<V: Historied>(rt: &impl Wait, gate: &Gate<V>, chair: &mut Chair<V>, tick
     unreachable!()
 }
 
-/// Between two looks: at first next to nothing, then the processor is given away, then the pass sleeps.
+/// Between two looks: at first next to nothing, then the pass sleeps.
 fn pause<V: Historied>(
     rt: &impl Wait,
     gate: &Gate<V>,
@@ -87,8 +84,6 @@ fn pause<V: Historied>(
 {
     if looks < LOOKS {
         hint::spin_loop();
-    } else if looks < PATIENCE {
-        thread::yield_now();
     } else {
         sleep(rt, gate, chair, ticket);
     }

@@ -70,6 +70,7 @@ impl<V: Historied> Turnstile<V> {
         ensures sound { IfOk result (λ r. IsSound V.law r.1) }
         ensures err { IfErr result (λ v. v ≡ value) }
     {
+        // The value shows that no entry is lawful on its basis.
         let _filed = value.filed();
         let key = Snapshot::of(&value);
         let mut slots = Vec::new(alloc);

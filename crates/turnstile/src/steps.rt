@@ -51,6 +51,7 @@ pub fn announce<V: Historied>(gate: &Gate<V>, chair: &mut Chair<V>, value: &V)
     ensures lawful { V.law (V.basis value.now) (V.entries value.now) }
     ensures filed { (e : Entry) → V.entries value.now ≡ chair.old.me.0.seen ++ e ∷ [] → chair.new.me ≡ (filed e chair.old.me.0, chair.old.me.1) }
 {
+    // Only the pass in its turn writes this word, so the exchange is made. It shows the value to the proof, which an addition could not.
     let count = u64::from(value.filed());
     let said = Place::Shown(Snapshot::of(value));
     gate.compare_exchange_with::<File>(chair, FRONT, count - 1, count, &said);

@@ -200,6 +200,38 @@ fn pass_on<R: Threads + Wait + Sync>(
     (one, two, front)
 }
 
+/// A turn at any value, in which nothing is filed.
+fn look_in<V: Historied>(rt: &impl Wait, gate: &Turnstile<V>, mut pass: Pass<V>) -> Pass<V>
+    requires { IsIdleAt gate.now pass }
+    ensures { IsIdleAt gate.now result × IsSamePass pass result × (result.mine ≡ pass.mine) }
+{
+    gate.take_turn(rt, &mut pass).leave();
+    pass
+}
+
+/// Two threads that look in.
+fn look_in_two_threads<V: Historied + Send, R: Threads + Wait + Sync>(
+    rt: &R,
+    gate: &Turnstile<V>,
+    one: Pass<V>,
+    two: Pass<V>,
+) -> (Pass<V>, Pass<V>)
+    requires { IsIdleAt gate.now one × IsIdleAt gate.now two }
+    ensures { IsIdleAt gate.now result.0 × IsIdleAt gate.now result.1 }
+{
+    join(
+        rt,
+        move || -> Pass<V>
+            requires { IsSync R.row × IsIdleAt gate.now one }
+            ensures { IsIdleAt gate.entry.now result }
+        { look_in(rt, gate, one) },
+        move || -> Pass<V>
+            requires { IsSync R.row × IsIdleAt gate.now two }
+            ensures { IsIdleAt gate.entry.now result }
+        { look_in(rt, gate, two) },
+    )
+}
+
 #[test]
 fn two_passes_a_note_and_a_close(rt: HostRuntime) -> Result<(), Fail> {
     let Ok((gate, mut first)) = Turnstile::new(rt.alloc(), Words::new(rt.alloc())) else {
@@ -227,6 +259,7 @@ fn two_threads_file_a_hundred_words_each(rt: HostRuntime) -> Result<(), Fail> {
     let one = gate.split(&mut first);
     let two = gate.split(&mut first);
     let ((one, filed_one), (two, filed_two)) = file_in_two_threads(&rt, &gate, one, two);
+    let (one, two) = look_in_two_threads(&rt, &gate, one, two);
     gate.retire(&mut first, one);
     gate.retire(&mut first, two);
     let value = gate.close(first);
