@@ -70,7 +70,7 @@ impl<V: Historied> Turnstile<V> {
         ensures sound { IfOk result (λ r. IsSound V.law r.1) }
         ensures err { IfErr result (λ v. v ≡ value) }
     {
-        // The value shows that no entry is lawful on its basis.
+        // By this call the value shows that the empty history is lawful on its basis.
         let _filed = value.filed();
         let key = Snapshot::of(&value);
         let mut slots = Vec::new(alloc);
