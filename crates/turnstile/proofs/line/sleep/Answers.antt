@@ -1,0 +1,9 @@
+use Rattle.std.proofs.Common.{arith, ◌∙◌}
+use Rattle.turnstile.proofs.Turns.{rings}
+use Rattle.turnstile.proofs.line.sleep.Goals as goal
+
+pub store-requires : goal.store-requires
+store-requires g c = (c.requires.table.0, omega arith, rings g.V.Historied.basis g.V.Historied.entries g.V.Historied.law _ _ _ _ _ _ c.bell_of-bell.ensures.0)
+
+pub store-requires-2 : goal.store-requires-2
+store-requires-2 g c = (c.store.ensures.0 ∙ c.requires.table.0, omega arith, rings g.V.Historied.basis g.V.Historied.entries g.V.Historied.law _ _ _ _ _ _ c.bell_of-bell.ensures.0)
