@@ -1,6 +1,6 @@
 ghost use Rattle.std.specs.Prelude.{◌≡◌, ◌≤◌, ◌^◌, ◌⊎◌, Err, IfOk, IsTrue, []};
 ghost use Rattle.names_table.specs.Names.{IsName, after_add as names_after, appends as name_appends};
-ghost use Rattle.client_session.specs.Tables.{Answers, answer_to_name, answer_to_type, comes_to_table, space_number};
+ghost use Rattle.client_session.specs.Tables.{Answers, answer_to_name, answer_to_record, record_grows, space_number, table_after};
 
 use crate::replies::{write_bytes, write_counts, write_index};
 use index_fields::first_missing;
@@ -52,15 +52,15 @@ impl Desk for Bare {
     ghost answers = { λ old a reply new. Answers old a reply new };
 
     fn answer(&mut self, _ground: &(), request: &Request, out: &mut Piece) {
+        let types = self.types.len();
+        let items = self.items.len();
         match *request {
             Request::Hello(_) => write_frame(0x81, &half(VERSION), out),
             Request::AddType(bytes) => {
-                let (types, items) = (self.types.len(), self.items.len());
                 let answer = add_record(Space::Types, &mut self.types, types, items, bytes);
                 write_index(0x82, answer, out);
             }
             Request::AddItem(bytes) => {
-                let (types, items) = (self.types.len(), self.items.len());
                 let answer = add_record(Space::Items, &mut self.items, types, items, bytes);
                 write_index(0x83, answer, out);
             }
@@ -80,9 +80,7 @@ impl Desk for Bare {
                 };
                 write_bytes(0x87, self.names.get(offset), missing, out);
             }
-            Request::Counts => {
-                write_counts(self.types.len(), self.items.len(), self.names.len(), out);
-            }
+            Request::Counts => write_counts(types, items, self.names.len(), out),
             Request::Bye => write_frame(0x8a, &[], out),
         }
     }

@@ -33,6 +33,7 @@ IsEarly status.BadLength = ⊥
 abbrev pub empty_tables : Tables
 empty_tables = record {
   types = record { max_records = 8388608; max_bytes = 1073741824; records = [] };
+  items = record { max_records = 8388608; max_bytes = 1073741824; records = [] };
   names = record { max_bytes = 268435456; version = 1; names = [] };
 }
 

@@ -39,7 +39,7 @@ pub fn run<S: Source, K: Sink>(
 
     // Where nothing fails, the input alone says how it ends.
     ensures complete { IsTrue S.tells → ¬ Rose (S.faults source.old) (S.faults source.new) → ¬ Rose (K.faults sink.old) (K.faults sink.new)
-      → length (S.left source.old) < 2 ^ 32 → (frames : List Frame) (tail : Tail) → AreFrames (S.left source.old) frames tail → (form_of words.now ≡ None) ⊎ (result ≡ Status.OutOfMemory) ⊎ (result ≡ status_of (end_at tail)) }
+        → length (S.left source.old) < 2 ^ 32 → (frames : List Frame) (tail : Tail) → AreFrames (S.left source.old) frames tail → (form_of words.now ≡ None) ⊎ (result ≡ Status.OutOfMemory) ⊎ (result ≡ status_of (end_at tail)) }
 {
     match plan_of(words) {
         Ok(Plan::Session) => {}
@@ -77,7 +77,7 @@ fn serve<S: Source, K: Sink>(
     ensures source_faults { S.faults source.old ≤ S.faults source.new }
     ensures sink_faults { K.faults sink.old ≤ K.faults sink.new }
     ensures complete { IsTrue S.tells → ¬ Rose (S.faults source.old) (S.faults source.new) → ¬ Rose (K.faults sink.old) (K.faults sink.new)
-      → length (S.left source.old) < 2 ^ 32 → (frames : List Frame) (tail : Tail) → AreFrames (S.left source.old) frames tail → result ≡ status_of (end_at tail) }
+        → length (S.left source.old) < 2 ^ 32 → (frames : List Frame) (tail : Tail) → AreFrames (S.left source.old) frames tail → result ≡ status_of (end_at tail) }
 {
     serve_both(&mut Both { source, sink }, desk, room)
 }
@@ -96,7 +96,7 @@ fn serve_both<'a, S: Source, K: Sink>(
     ensures source_faults { S.faults link.old.source.now ≤ S.faults link.new.source.now }
     ensures sink_faults { K.faults link.old.sink.now ≤ K.faults link.new.sink.now }
     ensures complete { IsTrue S.tells → ¬ Rose (S.faults link.old.source.now) (S.faults link.new.source.now) → ¬ Rose (K.faults link.old.sink.now) (K.faults link.new.sink.now)
-      → length (S.left link.old.source.now) < 2 ^ 32 → (frames : List Frame) (tail : Tail) → AreFrames (S.left link.old.source.now) frames tail → result ≡ status_of (end_at tail) }
+        → length (S.left link.old.source.now) < 2 ^ 32 → (frames : List Frame) (tail : Tail) → AreFrames (S.left link.old.source.now) frames tail → result ≡ status_of (end_at tail) }
     ensures source_name { link.new.source.ghost_name ≡ link.old.source.ghost_name }
     ensures sink_name { link.new.sink.ghost_name ≡ link.old.sink.ghost_name }
 {

@@ -16,7 +16,10 @@ const ADD: &str = "0d000000020a000110740000000100f2f1";
 
 const FIRST: &str = "050000008200100000";
 
-const NOT_GIVEN: &str = "0a000000ff050000000000100000";
+// Two of them, and their two replies.
+const TWO: &str = "0d000000020a000110740000000100f2f1 0d000000020a000110740000000100f2f1";
+
+const TWICE: &str = "050000008200100000050000008200100000";
 
 fn session_words(alloc: Global) -> Result<Vec<Word>, Fail> {
     let mut words = Vec::new(alloc);
@@ -24,37 +27,37 @@ fn session_words(alloc: Global) -> Result<Vec<Word>, Fail> {
     Ok(words)
 }
 
-fn source_of(alloc: Global, input: &[&str], piece: usize, fail: &[u32]) -> Result<MemSource, Fail>
+fn source_of(alloc: Global, input: &str, piece: usize, fail: &[u32]) -> Result<MemSource, Fail>
     requires { 0 < piece }
 {
     let mut bytes = Vec::new(alloc);
-    for text in input {
-        bytes.extend_from_slice(&hex::decode(alloc, *text)?)?;
+    for text in input.split_whitespace() {
+        bytes.extend_from_slice(&hex::decode(alloc, text)?)?;
     }
     Ok(MemSource::new(bytes, piece, Vec::from_slice(alloc, fail)?))
 }
 
-// The replies of a session as hexadecimal text, and its status.
+// The replies of a session as hexadecimal text, and its status, with a source that gives a byte and at
+// most so many more in each call.
 fn talk(
     alloc: Global,
-    input: &[&str],
-    piece: usize,
+    input: &str,
+    more: u8,
     source_fails: &[u32],
     sink_fails: &[u32],
-) -> Result<(String, Status), Fail>
-    requires { 0 < piece }
-{
-    let mut source = source_of(alloc, input, piece, source_fails)?;
+) -> Result<(String, Status), Fail> {
+    let mut source = source_of(alloc, input, usize::from(more) + 1, source_fails)?;
     let mut sink = MemSink::new(alloc, Vec::from_slice(alloc, sink_fails)?);
     let words = session_words(alloc)?;
     let status = run(alloc, &words, &mut source, &mut sink);
     Ok((hex::encode(alloc, sink.taken())?, status))
 }
 
-fn joined(alloc: Global, texts: &[&str]) -> Result<String, Fail> {
+// The text without its spaces.
+fn packed(alloc: Global, text: &str) -> Result<String, Fail> {
     let mut all = String::new(alloc);
-    for text in texts {
-        all.push_str(text)?;
+    for part in text.split_whitespace() {
+        all.push_str(part)?;
     }
     Ok(all)
 }
@@ -62,139 +65,168 @@ fn joined(alloc: Global, texts: &[&str]) -> Result<String, Fail> {
 // Each of these inputs has these replies and ends so, also in pieces of a byte and of seven.
 #[test]
 fn talks_by_their_bytes(rt: HostRuntime) -> Result<(), Fail> {
-    let rows: [(&[&str], &[&str], Status); 21] = [
+    let rows = [
         // the first record, twice, and the counts
-        (&[ADD], &[FIRST], Status::Ok),
         (
-            &[ADD, ADD, "0100000009"],
-            &[FIRST, FIRST, "0d00000089010000000000000000000000"],
+            "0d000000020a000110740000000100f2f1",
+            "050000008200100000",
+            Status::Ok,
+        ),
+        (
+            "0d000000020a000110740000000100f2f1 0d000000020a000110740000000100f2f1 0100000009",
+            "050000008200100000 050000008200100000 0d00000089010000000000000000000000",
             Status::Ok,
         ),
         // padding is part of equality
         (
-            &[ADD, "0d000000020a000110740000000100f1f1"],
-            &[FIRST, "050000008201100000"],
+            "0d000000020a000110740000000100f2f1 0d000000020a000110740000000100f1f1",
+            "050000008200100000 050000008201100000",
             Status::Ok,
         ),
         // gets of a missing, a simple and a present index
-        (&["050000000500100000"], &[NOT_GIVEN], Status::Ok),
         (
-            &["050000000574000000"],
-            &["0a000000ff050000000074000000"],
+            "050000000500100000",
+            "0a000000ff050000000000100000",
             Status::Ok,
         ),
         (
-            &[ADD, "050000000500100000"],
-            &[FIRST, "0d000000850a000110740000000100f2f1"],
+            "050000000574000000",
+            "0a000000ff050000000074000000",
+            Status::Ok,
+        ),
+        (
+            "0d000000020a000110740000000100f2f1 050000000500100000",
+            "050000008200100000 0d000000850a000110740000000100f2f1",
             Status::Ok,
         ),
         // a modifier of a missing type, and of one that is there
         (
-            &["0d000000020a000110001000000100f2f1"],
-            &[NOT_GIVEN],
+            "0d000000020a000110001000000100f2f1",
+            "0a000000ff050000000000100000",
             Status::Ok,
         ),
         (
-            &[ADD, "0d000000020a000110001000000100f2f1"],
-            &[FIRST, "050000008201100000"],
+            "0d000000020a000110740000000100f2f1 0d000000020a000110001000000100f2f1",
+            "050000008200100000 050000008201100000",
             Status::Ok,
         ),
         // no record at all
-        (
-            &["0100000002"],
-            &["0a000000ff040000000001000000"],
-            Status::Ok,
-        ),
+        ("0100000002", "0a000000ff040000000001000000", Status::Ok),
         // lengths of 0 and of 65,538
         (
-            &["00000000"],
-            &["0a000000ff010000000000000000"],
+            "00000000",
+            "0a000000ff010000000000000000",
             Status::BadLength,
         ),
         (
-            &["02000100"],
-            &["0a000000ff010200010000000000"],
+            "02000100",
+            "0a000000ff010200010000000000",
             Status::BadLength,
         ),
         // an unknown kind, and those that are not answered yet
         (
-            &["020000006300", "0100000008"],
-            &[
-                "0a000000ff026300000000000000",
-                "0a000000ff020800000000000000",
-            ],
+            "020000006300 0100000008",
+            "0a000000ff026300000000000000 0a000000ff020800000000000000",
             Status::Ok,
         ),
         // bodies that are too short, of version 0, and behind a Bye
+        ("03000000050010", "0a000000ff030200000000000000", Status::Ok),
         (
-            &["03000000050010"],
-            &["0a000000ff030200000000000000"],
+            "03000000010000 0400000001010000",
+            "0a000000ff030200000000000000 0a000000ff030300000000000000",
             Status::Ok,
         ),
         (
-            &["03000000010000", "0400000001010000"],
-            &[
-                "0a000000ff030200000000000000",
-                "0a000000ff030300000000000000",
-            ],
+            "020000000a00 03000000010200",
+            "0a000000ff030100000000000000 03000000810100",
+            Status::Ok,
+        ),
+        // lists: one that is empty, and one whose count cannot fit
+        (
+            "09000000020600011200000000",
+            "050000008200100000",
             Status::Ok,
         ),
         (
-            &["020000000a00", "03000000010200"],
-            &["0a000000ff030100000000000000", "03000000810100"],
+            "0d000000020a000112ffffffff74000000",
+            "0a000000ff040800000003000000",
+            Status::Ok,
+        ),
+        // members: an unknown numeric leaf, a pad of F0, and the same with a pad that counts
+        (
+            "11000000020e0003120d1503007400000005806100",
+            "0a000000ff040c00000004000000",
+            Status::Ok,
+        ),
+        (
+            "1500000002120003120d150300740000000000616200f00000",
+            "0a000000ff041100000006000000",
+            Status::Ok,
+        ),
+        (
+            "1500000002120003120d150300740000000000616200f3f2f1",
+            "050000008200100000",
+            Status::Ok,
+        ),
+        // a method that introduces a virtual one lacks its offset
+        (
+            "0d000000020a0006121000000074000000",
+            "0a000000ff040c00000003000000",
+            Status::Ok,
+        ),
+        // a structure and its field list
+        (
+            "11000000020e0003120d1503007400000000007800 21000000021e00051501000002001000000000000000000000040053002e3f415553404000",
+            "050000008200100000 050000008201100000",
+            Status::Ok,
+        ),
+        // an item, one that names a missing type, and an item sent as a type
+        (
+            "0d000000030a000516000000006100f2f1 050000000600100000 0100000009",
+            "050000008300100000 0d000000860a000516000000006100f2f1 0d00000089000000000100000000000000",
+            Status::Ok,
+        ),
+        (
+            "11000000030e00011600000000001000006600f2f1",
+            "0a000000ff050000000000100000",
+            Status::Ok,
+        ),
+        (
+            "0d000000020a000516000000006100f2f1 050000000600100000",
+            "0a000000ff040200000002000000 0a000000ff050100000000100000",
             Status::Ok,
         ),
         // names by their offsets
         (
-            &[
-                "0100000004",
-                "020000000461",
-                "03000000046263",
-                "020000000461",
-            ],
-            &[
-                "050000008400000000",
-                "050000008401000000",
-                "050000008403000000",
-                "050000008401000000",
-            ],
+            "0100000004 020000000461 03000000046263 020000000461",
+            "050000008400000000 050000008401000000 050000008403000000 050000008401000000",
             Status::Ok,
         ),
         (
-            &[
-                "020000000461",
-                "03000000046263",
-                "050000000702000000",
-                "050000000703000000",
-            ],
-            &[
-                "050000008401000000",
-                "050000008403000000",
-                "0a000000ff050200000002000000",
-                "03000000876263",
-            ],
+            "020000000461 03000000046263 050000000702000000 050000000703000000",
+            "050000008401000000 050000008403000000 0a000000ff050200000002000000 03000000876263",
             Status::Ok,
         ),
         // a name with a NUL, and the empty name
         (
-            &["03000000046100", "050000000700000000"],
-            &["0a000000ff030200000000000000", "0100000087"],
+            "03000000046100 050000000700000000",
+            "0a000000ff030200000000000000 0100000087",
             Status::Ok,
         ),
         // a Bye, behind which nothing is read
         (
-            &["03000000010100", "010000000a", ADD],
-            &["03000000810100", "010000008a"],
+            "03000000010100 010000000a 0d000000020a000110740000000100f2f1",
+            "03000000810100 010000008a",
             Status::Ok,
         ),
         // no input, and input that is cut
-        (&[], &[], Status::Ok),
-        (&["0d000000020a000110"], &[], Status::CutShort),
+        ("", "", Status::Ok),
+        ("0d000000020a000110", "", Status::CutShort),
     ];
     for (input, replies, status) in rows {
-        let want = joined(rt.alloc(), replies)?;
-        for piece in [1000, 1, 7] {
-            let (text, got) = talk(rt.alloc(), input, piece, &[], &[])?;
+        let want = packed(rt.alloc(), replies)?;
+        for more in [255, 0, 6] {
+            let (text, got) = talk(rt.alloc(), input, more, &[], &[])?;
             assert_eq!(rt; text.as_str(), want.as_str(), "at {input:?}");
             assert_eq!(rt; got, status, "at {input:?}");
         }
@@ -205,25 +237,32 @@ fn talks_by_their_bytes(rt: HostRuntime) -> Result<(), Fail> {
 // The source fails at one of its five calls, or the sink at one of its two.
 #[test]
 fn faults_at_each_call(rt: HostRuntime) -> Result<(), Fail> {
-    for (call, replies) in [(0, 0), (1, 0), (2, 1), (3, 1), (4, 2)] {
-        let (text, status) = talk(rt.alloc(), &[ADD, ADD], 1000, &[call], &[])?;
-        assert_eq!(rt; text.len(), replies * FIRST.len(), "at {call}");
-        assert_eq!(rt; status, Status::ReadFault);
+    let alloc = rt.alloc();
+    for (call, replies) in [(0, ""), (1, ""), (2, FIRST), (3, FIRST), (4, TWICE)] {
+        let (text, status) = talk(alloc, TWO, 255, &[call], &[])?;
+        assert_eq!(rt;
+            (text.as_str(), status),
+            (replies, Status::ReadFault),
+            "at {call}"
+        );
     }
-    for call in 0..2u32 {
-        let (text, status) = talk(rt.alloc(), &[ADD, ADD], 1000, &[], &[call])?;
-        assert_eq!(rt; text.len(), call as usize * FIRST.len(), "at {call}");
-        assert_eq!(rt; status, Status::WriteFault);
+    for (call, replies) in [(0, ""), (1, FIRST)] {
+        let (text, status) = talk(alloc, TWO, 255, &[], &[call])?;
+        assert_eq!(rt;
+            (text.as_str(), status),
+            (replies, Status::WriteFault),
+            "at {call}"
+        );
     }
-    let (text, status) = talk(rt.alloc(), &[ADD, ADD], 1000, &[5], &[2])?;
-    assert_eq!(rt; (text.len(), status), (2 * FIRST.len(), Status::Ok));
+    let (text, status) = talk(alloc, TWO, 255, &[5], &[2])?;
+    assert_eq!(rt; (text.as_str(), status), (TWICE, Status::Ok));
     Ok(())
 }
 
 // Other words than the one form read nothing.
 #[test]
 fn other_words_are_no_form(rt: HostRuntime) -> Result<(), Fail> {
-    let mut source = source_of(rt.alloc(), &[ADD], 1000, &[])?;
+    let mut source = source_of(rt.alloc(), ADD, 1000, &[])?;
     let mut sink = MemSink::new(rt.alloc(), Vec::new(rt.alloc()));
     let none = Vec::new(rt.alloc());
     let status = run(rt.alloc(), &none, &mut source, &mut sink);
@@ -243,7 +282,7 @@ fn other_words_are_no_form(rt: HostRuntime) -> Result<(), Fail> {
 #[test]
 fn limit_of_one_frame(rt: HostRuntime) -> Result<(), Fail> {
     let mut link = MemLink {
-        source: source_of(rt.alloc(), &[ADD, ADD], 1000, &[])?,
+        source: source_of(rt.alloc(), TWO, 255, &[])?,
         sink: MemSink::new(rt.alloc(), Vec::new(rt.alloc())),
     };
     let mut desk = Bare::new(rt.alloc(), Limits::STANDARD)?;
@@ -282,7 +321,7 @@ impl Sink for Drip {
 
 #[test]
 fn one_byte_a_give(rt: HostRuntime) -> Result<(), Fail> {
-    let mut source = source_of(rt.alloc(), &[ADD, ADD], 1, &[])?;
+    let mut source = source_of(rt.alloc(), TWO, 1, &[])?;
     let mut sink = Drip {
         taken: Vec::new(rt.alloc()),
         faults: 0,
@@ -291,9 +330,22 @@ fn one_byte_a_give(rt: HostRuntime) -> Result<(), Fail> {
     let status = run(rt.alloc(), &words, &mut source, &mut sink);
     assert_eq!(rt; status, Status::Ok);
     let text = hex::encode(rt.alloc(), sink.taken.as_slice())?;
-    assert_eq!(rt;
-        text.as_str(),
-        joined(rt.alloc(), &[FIRST, FIRST])?.as_str()
-    );
+    assert_eq!(rt; text.as_str(), TWICE);
+    Ok(())
+}
+
+// The longest record is taken: a list of 16,382 arguments.
+#[test]
+fn longest_record(rt: HostRuntime) -> Result<(), Fail> {
+    let mut bytes = hex::decode(rt.alloc(), "0100010002feff0112fe3f0000")?;
+    for _ in 0..16_382u32 {
+        bytes.extend_from_slice(&[0x74, 0, 0, 0])?;
+    }
+    let mut source = MemSource::new(bytes, 65_536, Vec::new(rt.alloc()));
+    let mut sink = MemSink::new(rt.alloc(), Vec::new(rt.alloc()));
+    let words = session_words(rt.alloc())?;
+    let status = run(rt.alloc(), &words, &mut source, &mut sink);
+    assert_eq!(rt; status, Status::Ok);
+    assert_eq!(rt; hex::encode(rt.alloc(), sink.taken())?.as_str(), FIRST);
     Ok(())
 }

@@ -1,5 +1,5 @@
 -- Bodies that no reply has.
-use Rattle.std.proofs.Common.{◌≡◌, ◌+◌, ℕ, List, ◌++◌, ◌∷◌, length, refl, sym, ap, ◌∙◌, arith, length-append, Option, None, Some, Result, Ok, Err, IfNone}
+use Rattle.std.proofs.Common.{◌≡◌, ◌++◌, ◌∷◌, length, ap, arith, length-append, Option, None, Some, Result, Err, IfNone}
 use Rattle.std.specs.Option.{ok_or}
 use Rattle.srv_edge.specs.Frames.{Frame, word_bytes}
 use Rattle.srv_edge.proofs.Numbers.{length-word_bytes}

@@ -52,6 +52,18 @@ IsAsked (get_name offset) = offset < 2 ^ 32
 IsAsked counts = ⊤
 IsAsked bye = ⊤
 
+-- a request whose frame a session takes: a record has at most 65,536 bytes
+abbrev pub FitsFrame : Asked → Type 0
+FitsFrame (hello version) = ⊤
+FitsFrame (add_type r) = length r ≤ 65536
+FitsFrame (add_item r) = length r ≤ 65536
+FitsFrame (add_name name) = ⊤
+FitsFrame (get_type index) = ⊤
+FitsFrame (get_item index) = ⊤
+FitsFrame (get_name offset) = ⊤
+FitsFrame counts = ⊤
+FitsFrame bye = ⊤
+
 -- the kinds of requests
 abbrev pub IsKind : ℕ → Type 0
 IsKind kind = (kind ≡ 1) ⊎ (kind ≡ 2) ⊎ (kind ≡ 3) ⊎ (kind ≡ 4) ⊎ (kind ≡ 5) ⊎ (kind ≡ 6) ⊎ (kind ≡ 7) ⊎ (kind ≡ 9) ⊎ (kind ≡ 10)

@@ -1,6 +1,6 @@
 ghost use Rattle.std.specs.Prelude.{◌≡◌, ◌≢◌, ◌≤◌, ◌++◌, ◌∷◌, ℕ, length, slice_index, IfOk, IfSome, IfNone, OnOk, OnErr, Err};
-ghost use Rattle.srv_edge.specs.Frames.{frame_bytes, half_bytes, length_of, word_bytes};
-ghost use Rattle.request_frames.specs.Requests.{IsAsked, asked, frame_of, request_frame};
+ghost use Rattle.srv_edge.specs.Frames.{frame_bytes, half_bytes, word_bytes};
+ghost use Rattle.request_frames.specs.Requests.{FitsFrame, IsAsked, asked, frame_of, request_frame};
 ghost use Rattle.request_frames.specs.Replies.{IsBadReply, IsReplyKind, reply_frame};
 
 use crate::read::read_word;
@@ -12,7 +12,7 @@ use std::alloc::AllocError;
 /// Writes a request behind what is there, with its length.
 pub fn write_request(r: &Request, out: &mut Vec<u8>) -> Result<(), AllocError>
     requires asked { IsAsked (asked r.now) }
-    requires fits { length_of (request_frame (asked r.now)) ≤ 65537 }
+    requires fits { FitsFrame (asked r.now) }
     ensures ok { OnOk result (out.new.items ≡ out.old.items ++ frame_bytes (request_frame (asked r.now))) }
     ensures err { OnErr result (out.new.items ≡ out.old.items) }
 {

@@ -1,4 +1,4 @@
-use Rattle.std.proofs.Common.{◌≡◌, ◌≢◌, ◌-◌, length, take, drop, ap, ◌∙◌, inl, inr}
+use Rattle.std.proofs.Common.{◌≢◌, ◌-◌, length, take, drop, ap, ◌∙◌, inl, inr}
 use Rattle.std.proofs.lemmas.List.{take_rest}
 use Rattle.request_frames.specs.declared.request.BadFrame.TheVariants.{Body}
 use Rattle.request_frames.specs.Requests.{frame_of}

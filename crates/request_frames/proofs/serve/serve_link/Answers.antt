@@ -1,4 +1,3 @@
-use Rattle.std.proofs.Common.{sym, ap, ◌∙◌}
 use Rattle.request_frames.proofs.Ends.{session_end}
 use Rattle.request_frames.proofs.serve.serve_link.Goals as goal
 
