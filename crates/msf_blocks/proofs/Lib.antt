@@ -1,5 +1,5 @@
 pub mod BitWrites
 pub mod Numbers
 pub mod Sizes
-pub mod Tests
+pub mod Passing
 pub mod SuperblockTexts

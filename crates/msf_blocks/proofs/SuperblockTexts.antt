@@ -14,7 +14,7 @@ use Rattle.msf_blocks.specs.declared.superblock.SuperFault.TheVariants.{Magic}
 use Rattle.msf_blocks.specs.Superblock.{Answers, IsSuper, first_fault, magic, has_magic, number_tests, numbers_of, superblock_tests, superblock_text}
 use Rattle.msf_blocks.proofs.Numbers.{AreBytes, AreBytes-drop, little_number-lt, little_bytes-little_number, little_number-little_bytes, take_further}
 use Rattle.msf_blocks.proofs.Sizes.{IsBlockSize-le, IsBlockSize-ge, IsSuper-dir_bytes-lt}
-use Rattle.msf_blocks.proofs.Tests.{was_passed, is_passed, Leaves, leaves, all_passed}
+use Rattle.msf_blocks.proofs.Passing.{was_passed, is_passed, Leaves, leaves, all_passed}
 
 -- what a front with the magic is
 pub record Begins (bytes : List ℕ) (file_len : ℕ) : Type 0 where
