@@ -1,6 +1,6 @@
 -- A bit that is set or cleared, and the others.
 use Rattle.std.proofs.Common.{◌≡◌, ◌<◌, ◌-◌, ◌/◌, ◌%◌, ◌*◌, ◌^◌, ◌≢◌, ℕ, true, false, List, length, get_or, set, refl, ap, sym, ◌∙◌, inl, inr, arith, eqb, bit_and, bit_or, w8}
-use Rattle.std.specs.Int.{bit_at, bit_not}
+use Rattle.std.specs.Int.{bit_at}
 use Rattle.std.proofs.lemmas.Bool.{cases_eq}
 use Rattle.std.proofs.lemmas.List.{get_or-set_same, get_or-set_other}
 use Rattle.std.proofs.lemmas.Nat.Bits.{bit_at_set_same, bit_at_set_other, bit_at_clear_same, bit_at_clear_other}

@@ -1,10 +1,10 @@
 -- The superblock: what is read was written so, and what is written is read again.
-use Rattle.std.proofs.Common.{◌≡◌, ◌≤◌, ◌<◌, ◌+◌, ◌*◌, ◌^◌, ◌&&◌, ℕ, Bool, true, false, List, [], ◌∷◌, ◌++◌, Option, Some, None, Result, Ok, Err, length, take, drop, refl, sym, ap, subst, ◌∙◌, arith, leb, nat_eq, lit≤, inl, inr}
-use Rattle.std.specs.Prelude.{MatchResult, IfOk}
+use Rattle.std.proofs.Common.{◌≡◌, ◌≤◌, ◌<◌, ◌+◌, ◌*◌, ◌^◌, ◌&&◌, ℕ, true, List, [], ◌++◌, None, Result, Ok, Err, length, take, drop, refl, sym, ap, subst, ◌∙◌, arith, leb, nat_eq, lit≤, inl, inr}
+use Rattle.std.specs.Prelude.{IfOk}
 use Rattle.std.specs.List.{starts_with}
 use Rattle.std.proofs.lemmas.Bool.{leb-true, le-leb, and_parts, and_from}
 use Rattle.std.proofs.lemmas.Bool.Decides.{Decides-eqb}
-use Rattle.std.proofs.lemmas.List.{take_at, length-take, take-append-drop, length-append, length-drop}
+use Rattle.std.proofs.lemmas.List.{take_at, length-take, take-append-drop, length-drop}
 use Rattle.std.proofs.lemmas.Nat.{mul-le}
 use Rattle.std.proofs.lemmas.Slice.Eq.{starts_is}
 use Rattle.byteorder.specs.Endian.{little_bytes, little_number}
@@ -14,7 +14,7 @@ use Rattle.msf_blocks.specs.declared.superblock.SuperFault.TheVariants.{Magic}
 use Rattle.msf_blocks.specs.Superblock.{Answers, IsSuper, first_fault, magic, has_magic, number_tests, numbers_of, superblock_tests, superblock_text}
 use Rattle.msf_blocks.proofs.Numbers.{AreBytes, AreBytes-drop, little_number-lt, little_bytes-little_number, little_number-little_bytes, take_further}
 use Rattle.msf_blocks.proofs.Sizes.{IsBlockSize-le, IsBlockSize-ge, IsSuper-dir_bytes-lt}
-use Rattle.msf_blocks.proofs.Passing.{was_passed, is_passed, Leaves, leaves, all_passed}
+use Rattle.msf_blocks.proofs.Passing.{was_passed, is_passed, leaves, all_passed}
 
 -- what a front with the magic is
 pub record Begins (bytes : List ℕ) (file_len : ℕ) : Type 0 where

@@ -61,7 +61,7 @@ fn first_faults(rt: HostRuntime) {
 fn short_files(rt: HostRuntime) {
     let text = write_super(&NUMBERS);
     assert_eq!(rt;
-        read_super(&text[..55], 55, 1 << 20),
+        read_super(text.split_at(55).0, 55, 1 << 20),
         Err(SuperFault::Magic)
     );
     assert_eq!(rt; read_super(&[], 0, 1 << 20), Err(SuperFault::Magic));
