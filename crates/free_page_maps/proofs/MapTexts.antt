@@ -1,5 +1,5 @@
 -- The text of a map has the bits that it should have, and is read again as the same map.
-use Rattle.std.proofs.Common.{◌≡◌, ◌≤◌, ◌<◌, ◌+◌, ◌-◌, ◌*◌, ◌/◌, ◌%◌, ◌^◌, ◌||◌, ◌&&◌, not, ℕ, zero, suc, Bool, true, false, List, [], ◌∷◌, ◌++◌, length, get_or, map, take, All, refl, ap, sym, ◌∙◌, lit<, bit_or, inl, inr, arith, eqb, leb, cond}
+use Rattle.std.proofs.Common.{◌≡◌, ◌≤◌, ◌<◌, ◌+◌, ◌-◌, ◌*◌, ◌/◌, ◌%◌, ◌^◌, ◌||◌, ◌&&◌, not, ℕ, zero, suc, Bool, true, false, List, [], ◌∷◌, ◌++◌, get_or, map, take, All, refl, ap, sym, ◌∙◌, lit<, bit_or, inl, inr, arith, eqb, leb, cond}
 use Rattle.std.specs.Int.{bit_at}
 use Rattle.std.specs.List.{list_any, range_with_len}
 use Rattle.std.proofs.lemmas.Bool.{agree_below_at, cases_lt, cases_Bool, le-leb, lt-leb, and_from, not_from_false, false_from_ne_true, eqb-true}
@@ -11,9 +11,9 @@ use Rattle.std.proofs.lemmas.Nat.Bits.{bit_at_lowest, bit_at-suc, bit_at-lt, sam
 use Rattle.msf_blocks.specs.Bits.{has_bit}
 use Rattle.msf_blocks.specs.Blocks.{IsReserved, is_reserved, map_blocks}
 use Rattle.msf_blocks.proofs.Numbers.{AreBytes}
-use Rattle.free_page_maps.specs.FreeBlocks.{FreeBlocks, below_where, free_in, is_free}
+use Rattle.free_page_maps.specs.FreeBlocks.{below_where, free_in, is_free}
 use Rattle.free_page_maps.specs.MapText.{map_bit, map_text, number_where}
-use Rattle.free_page_maps.proofs.Listing.{below_where-same, is_free-below_where, is_free-past}
+use Rattle.free_page_maps.proofs.Listing.{below_where-same, is_free-below_where}
 use Rattle.free_page_maps.proofs.Masks.{filled_bit}
 use Rattle.free_page_maps.proofs.Scanning.{has_bit-at}
 
@@ -86,12 +86,12 @@ last_byte n i bits bytes is =
     let short : r < 8 = omega arith in
     byte_from_bits (bit_or x (255 * 2 ^ r % 256)) (λ k. padded_bit n bits (8 * i + k)) (or_of_8 x (255 * 2 ^ r % 256) (bytes i) (mod_below (255 * 2 ^ r) 256 (lit< tt)))
     (λ k lt.
-      filled_bit x r k short lt
-      ∙ elim (cases_lt k r) [
-        | inl below ↦ ap (λ t. t || eqb (bit_at x k) 1) (lt-leb r k below ∙ sym (lt-leb n (8 * i + k) (omega (arith, is, below))))
-        | inr above ↦ ap (λ t. t || eqb (bit_at x k) 1) (le-leb r k above ∙ sym (le-leb n (8 * i + k) (omega (arith, is, above))))
-      ]
-      ∙ ap (λ t. leb n (8 * i + k) || t) (sym (has_bit-at bits i k (8 * i + k) lt refl)))
+    filled_bit x r k short lt
+    ∙ elim (cases_lt k r) [
+      | inl below ↦ ap (λ t. t || eqb (bit_at x k) 1) (lt-leb r k below ∙ sym (lt-leb n (8 * i + k) (omega (arith, is, below))))
+      | inr above ↦ ap (λ t. t || eqb (bit_at x k) 1) (le-leb r k above ∙ sym (le-leb n (8 * i + k) (omega (arith, is, above))))
+    ]
+    ∙ ap (λ t. leb n (8 * i + k) || t) (sym (has_bit-at bits i k (8 * i + k) lt refl)))
 
 pub past_byte : (n i : ℕ) (bits : List ℕ) → n ≤ 8 * i → 255 ≡ number_where 8 (λ k. padded_bit n bits (8 * i + k))
 past_byte n i bits le =
@@ -122,19 +122,19 @@ pub free_in-again : (block_size n : ℕ) (bits maps : List ℕ) → All (λ x. �
 free_in-again block_size n bits maps all h =
     let each : (b : ℕ) → b < n → (not (is_reserved block_size b) && has_bit maps b) ≡ has_bit bits b =
     λ b lt.
-      let same : has_bit maps b ≡ has_bit bits b = h b lt ∙ ap (λ t. t || has_bit bits b) (lt-leb n b lt) in
-      elim (cases_Bool (has_bit bits b)) [
-        | inl one ↦
+    let same : has_bit maps b ≡ has_bit bits b = h b lt ∙ ap (λ t. t || has_bit bits b) (lt-leb n b lt) in
+    elim (cases_Bool (has_bit bits b)) [
+      | inl one ↦
           let listed = is_free-below_where n (has_bit bits) b lt ∙ one in
           and_from (not (is_reserved block_size b)) (has_bit maps b) (not_from_false (is_reserved block_size b) (free_unreserved block_size (below_where n (has_bit bits)) b all listed)) (same ∙ one) ∙ sym one
-        | inr none ↦ ap (λ t. not (is_reserved block_size b) && t) (same ∙ none) ∙ and_false (not (is_reserved block_size b)) ∙ sym none
-      ]
+      | inr none ↦ ap (λ t. not (is_reserved block_size b) && t) (same ∙ none) ∙ and_false (not (is_reserved block_size b)) ∙ sym none
+    ]
     in
     ap (λ free. record { blocks = n; free = free }) (below_where-same n (λ b. not (is_reserved block_size b) && has_bit maps b) (has_bit bits) each)
   where
-  and_false : (t : Bool) → (t && false) ≡ false
-  and_false true = refl
-  and_false false = refl
+    and_false : (t : Bool) → (t && false) ≡ false
+    and_false true = refl
+    and_false false = refl
 
 -- what is kept of the maps that were read
 pub free_in-gathered : (block_size n bytes : ℕ) (maps bits : List ℕ) → n ≤ 8 * bytes → ((b : ℕ) → has_bit bits b ≡ (not (is_reserved block_size b) && has_bit (take bytes maps) b))
@@ -161,9 +161,9 @@ padded-has_bit n m bits b lt =
     let place : 8 * i + k ≡ b = omega arith in
     ap (λ x. eqb (bit_at x k) 1) byte ∙ ap (λ x. eqb x 1) (bit_at-number_where 8 (λ k. padded_bit n bits (8 * i + k)) k (omega arith)) ∙ as_test (padded_bit n bits (8 * i + k)) ∙ ap (padded_bit n bits) place
   where
-  as_test : (t : Bool) → eqb (cond t 1 0) 1 ≡ t
-  as_test true = refl
-  as_test false = refl
+    as_test : (t : Bool) → eqb (cond t 1 0) 1 ≡ t
+    as_test true = refl
+    as_test false = refl
 
 -- the meaningful blocks of a map have a bit for each block
 pub map_blocks-enough : (block_size n : ℕ) → 0 < block_size → n ≤ 8 * (map_blocks block_size n * block_size)
@@ -178,7 +178,8 @@ pub text_and_again : (block_size n : ℕ) (bits maps : List ℕ) → 0 < block_s
     → maps ≡ padded_text n bits (map_blocks block_size n * block_size)
     → (maps ≡ map_text block_size (record { blocks = n; free = below_where n (has_bit bits) })) × (free_in block_size n maps ≡ record { blocks = n; free = below_where n (has_bit bits) })
 text_and_again block_size n bits maps pos all is =
-    let enough = map_blocks-enough block_size n pos in
-    (is ∙ padded-map_text block_size n bits,
-    free_in-again block_size n bits maps all
-    (λ b lt. ap (λ xs. has_bit xs b) is ∙ padded-has_bit n (map_blocks block_size n * block_size) bits b (omega (arith, enough, lt))))
+    let enough = map_blocks-enough block_size n pos in (
+      is ∙ padded-map_text block_size n bits,
+      free_in-again block_size n bits maps all
+          (λ b lt. ap (λ xs. has_bit xs b) is ∙ padded-has_bit n (map_blocks block_size n * block_size) bits b (omega (arith, enough, lt))),
+    )

@@ -1,5 +1,5 @@
 -- The masks of reserved blocks and of the last byte of a map.
-use Rattle.std.proofs.Common.{◌≡◌, ◌≤◌, ◌<◌, ◌+◌, ◌-◌, ◌*◌, ◌/◌, ◌%◌, ◌^◌, ◌&&◌, ◌||◌, not, ℕ, zero, suc, Bool, true, false, List, length, get_or, set, refl, ap, sym, ◌∙◌, inl, inr, arith, eqb, leb, bit_and, bit_or, min, max}
+use Rattle.std.proofs.Common.{◌≡◌, ◌≤◌, ◌<◌, ◌+◌, ◌-◌, ◌*◌, ◌/◌, ◌%◌, ◌^◌, ◌&&◌, ◌||◌, not, ℕ, zero, suc, true, false, List, length, get_or, set, refl, ap, sym, ◌∙◌, inl, inr, arith, eqb, leb, bit_and, bit_or, min, max}
 use Rattle.std.specs.Int.{bit_at}
 use Rattle.std.proofs.lemmas.Bool.{cases_lt, cases_eq, agree_below_at, le-leb, lt-leb, ne_eqb, and_right}
 use Rattle.std.proofs.lemmas.List.{get_or_past}
@@ -76,18 +76,18 @@ cleared_more bits old block_size i m lt mask h =
     let x = get_or bits i 0 in
     let here : (b : ℕ) → b / 8 ≡ i → has_bit (set bits i (bit_and x m)) b ≡ (not (is_reserved block_size b) && has_bit old b) =
     λ b e.
-      let place : 8 * i + b % 8 ≡ b = omega (arith, e) in
-      has_bit-set_same bits i (bit_and x m) b lt e ∙ ap (λ n. eqb n 1) (bit_at_and x m (b % 8)) ∙ both_bits (bit_at x (b % 8)) (bit_at m (b % 8)) (bit_at-lt x (b % 8)) (bit_at-lt m (b % 8))
-      ∙ ap (λ t. t && eqb (bit_at x (b % 8)) 1) (mask (b % 8) (omega arith) ∙ ap (λ n. not (is_reserved block_size n)) place)
-      ∙ ap (λ j. not (is_reserved block_size b) && eqb (bit_at (get_or bits j 0) (b % 8)) 1) (sym e)
-      ∙ ap (λ t. not (is_reserved block_size b) && t) (h.rest b (omega (arith, e)))
+    let place : 8 * i + b % 8 ≡ b = omega (arith, e) in
+    has_bit-set_same bits i (bit_and x m) b lt e ∙ ap (λ n. eqb n 1) (bit_at_and x m (b % 8)) ∙ both_bits (bit_at x (b % 8)) (bit_at m (b % 8)) (bit_at-lt x (b % 8)) (bit_at-lt m (b % 8))
+    ∙ ap (λ t. t && eqb (bit_at x (b % 8)) 1) (mask (b % 8) (omega arith) ∙ ap (λ n. not (is_reserved block_size n)) place)
+    ∙ ap (λ j. not (is_reserved block_size b) && eqb (bit_at (get_or bits j 0) (b % 8)) 1) (sym e)
+    ∙ ap (λ t. not (is_reserved block_size b) && t) (h.rest b (omega (arith, e)))
     in
     record {
       done = λ b before.
-        elim (cases_eq (b / 8) i) [
-          | inl e ↦ here b e
-          | inr ne ↦ has_bit-set_other bits i (bit_and x m) b ne ∙ h.done b (omega (arith, before, ne))
-        ];
+          elim (cases_eq (b / 8) i) [
+            | inl e ↦ here b e
+            | inr ne ↦ has_bit-set_other bits i (bit_and x m) b ne ∙ h.done b (omega (arith, before, ne))
+          ];
       rest = λ b after. has_bit-set_other bits i (bit_and x m) b (λ e. omega (arith, e, after)) ∙ h.rest b (omega (arith, after));
     }
 
@@ -100,8 +100,8 @@ cleared_all bits old block_size i le h b =
     elim (cases_lt b (8 * i)) [
       | inl lt ↦ h.done b lt
       | inr ge ↦
-        let none = past_bits old b (omega (arith, ge, le)) in
-        h.rest b ge ∙ none ∙ sym (and_right (not (is_reserved block_size b)) (has_bit old b) none)
+          let none = past_bits old b (omega (arith, ge, le)) in
+          h.rest b ge ∙ none ∙ sym (and_right (not (is_reserved block_size b)) (has_bit old b) none)
     ]
 
 -- the byte of the last block, with ones from the bit past it on
@@ -112,10 +112,10 @@ filled_bit x r k short lt =
     let bit : eqb (bit_at (bit_or x m) k) 1 ≡ eqb (max (bit_at x k) (bit_at (2 ^ 8 - 2 ^ r) k)) 1 = ap (λ n. eqb n 1) (bit_at_or x m k ∙ ap (λ y. max (bit_at x k) (bit_at y k)) mask) in
     elim (cases_lt k r) [
       | inl below ↦
-        let same : max (bit_at x k) 0 ≡ bit_at x k = omega arith in
-        bit ∙ ap (λ y. eqb (max (bit_at x k) y) 1) (bit_at_mask_below r 8 k below) ∙ ap (λ y. eqb y 1) same
-        ∙ sym (ap (λ t. t || eqb (bit_at x k) 1) (lt-leb r k below))
+          let same : max (bit_at x k) 0 ≡ bit_at x k = omega arith in
+          bit ∙ ap (λ y. eqb (max (bit_at x k) y) 1) (bit_at_mask_below r 8 k below) ∙ ap (λ y. eqb y 1) same
+          ∙ sym (ap (λ t. t || eqb (bit_at x k) 1) (lt-leb r k below))
       | inr above ↦
-        let same : max (bit_at x k) 1 ≡ 1 = omega (arith, bit_at-lt x k) in
-        bit ∙ ap (λ y. eqb (max (bit_at x k) y) 1) (bit_at_mask_inside r 8 k above lt) ∙ ap (λ y. eqb y 1) same ∙ sym (ap (λ t. t || eqb (bit_at x k) 1) (le-leb r k above))
+          let same : max (bit_at x k) 1 ≡ 1 = omega (arith, bit_at-lt x k) in
+          bit ∙ ap (λ y. eqb (max (bit_at x k) y) 1) (bit_at_mask_inside r 8 k above lt) ∙ ap (λ y. eqb y 1) same ∙ sym (ap (λ t. t || eqb (bit_at x k) 1) (le-leb r k above))
     ]

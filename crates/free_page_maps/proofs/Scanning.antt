@@ -1,5 +1,5 @@
 -- The lowest bit that is 1, found by bytes.
-use Rattle.std.proofs.Common.{◌≡◌, ◌≤◌, ◌<◌, ◌+◌, ◌-◌, ◌*◌, ◌/◌, ◌%◌, ◌^◌, ℕ, true, false, List, length, get_or, refl, ap, sym, ◌∙◌, inl, inr, arith, eqb, w8}
+use Rattle.std.proofs.Common.{◌≡◌, ◌≤◌, ◌<◌, ◌+◌, ◌-◌, ◌*◌, ◌/◌, ◌%◌, ◌^◌, ℕ, false, List, get_or, refl, ap, sym, ◌∙◌, inl, inr, arith, eqb, w8}
 use Rattle.std.specs.Int.{bit_at, trailing_zeros}
 use Rattle.std.proofs.lemmas.Bool.{cases_lt}
 use Rattle.std.proofs.lemmas.Nat.{shr-shr, shr_le}
@@ -37,8 +37,8 @@ in_first bits from i r byte lt e some =
       is_one = has_bit-at bits i (r + z) (from + z) inside (omega (arith, e)) ∙ ap (λ y. eqb y 1) one;
       enough = omega arith;
       lowest = λ k le before.
-        let u : k - from < z = omega arith in
-        has_bit-at bits i (r + (k - from)) k (omega (arith, inside)) (omega (arith, e)) ∙ ap (λ y. eqb y 1) (sym (shifted x r (k - from)) ∙ t.2 (k - from) u);
+          let u : k - from < z = omega arith in
+          has_bit-at bits i (r + (k - from)) k (omega (arith, inside)) (omega (arith, e)) ∙ ap (λ y. eqb y 1) (sym (shifted x r (k - from)) ∙ t.2 (k - from) u);
     }
 
 -- a later byte
@@ -52,15 +52,15 @@ in_later bits from next i byte le before first =
       is_one = has_bit-at bits i z (8 * i + z) t.0 refl ∙ ap (λ y. eqb y 1) t.1;
       enough = omega (arith, le, first.enough);
       lowest = λ k le before'.
-        elim (cases_lt k (8 * next)) [
-          | inl lt ↦ before k le lt
-          | inr ge ↦ elim (cases_lt k (8 * i)) [
-            | inl lt ↦ zero_byte bits k (first.zeros (k / 8) (omega (arith, ge)) (omega (arith, lt)))
-            | inr ge' ↦
-              let u : k - 8 * i < z = omega (arith, before', ge') in
-              has_bit-at bits i (k - 8 * i) k (omega (arith, u, t.0)) (omega (arith, ge')) ∙ ap (λ y. eqb y 1) (t.2 (k - 8 * i) u)
-          ]
-        ];
+          elim (cases_lt k (8 * next)) [
+            | inl lt ↦ before k le lt
+            | inr ge ↦ elim (cases_lt k (8 * i)) [
+              | inl lt ↦ zero_byte bits k (first.zeros (k / 8) (omega (arith, ge)) (omega (arith, lt)))
+              | inr ge' ↦
+                  let u : k - 8 * i < z = omega (arith, before', ge') in
+                  has_bit-at bits i (k - 8 * i) k (omega (arith, u, t.0)) (omega (arith, ge')) ∙ ap (λ y. eqb y 1) (t.2 (k - 8 * i) u)
+            ]
+          ];
     }
 
 -- no byte

@@ -32,10 +32,16 @@ impl Model for FreeMap {
 impl FreeMap {
     /// Reads the joined blocks of a map in a file of so many blocks. Bits of reserved blocks and bits
     /// past the last block are not judged.
-    pub fn gather(alloc: Global, block_size: u32, blocks: u32, maps: &[u8]) -> Result<FreeMap, AllocError>
+    pub fn gather(
+        alloc: Global,
+        block_size: u32,
+        blocks: u32,
+        maps: &[u8],
+    ) -> Result<FreeMap, AllocError>
         requires size { IsBlockSize block_size }
         requires bits { blocks ≤ 8 * length maps.now }
-        ensures { IfOk result (λ m. m ≡ free_in block_size blocks maps.now) }
+        ensures free { IfOk result (λ m. m ≡ free_in block_size blocks maps.now) }
+        ensures unreserved { IfOk result (λ m. All (λ b. ¬ IsReserved block_size b) m.free) }
     {
         let bytes = blocks.div_ceil(8) as usize;
         let mut bits = Vec::from_slice(alloc, &maps[..bytes])?;

@@ -1,5 +1,5 @@
 use Rattle.std.proofs.Common.{◌≡◌, ◌*◌, All, ap, sym, subst, ◌∙◌, arith}
-use Rattle.msf_blocks.specs.Blocks.{map_blocks, IsReserved}
+use Rattle.msf_blocks.specs.Blocks.{IsReserved}
 use Rattle.msf_blocks.proofs.Sizes.{IsBlockSize-ge}
 use Rattle.free_page_maps.specs.FreeBlocks.{free_in}
 use Rattle.free_page_maps.specs.MapText.{map_text}
