@@ -1,0 +1,3 @@
+pub mod Fields
+pub mod Marks
+pub mod Counts

@@ -1,0 +1,14 @@
+//! The stream directory, read from its bytes and written again.
+#![tactic(auto)]
+
+mod directory;
+mod fault;
+mod judging;
+mod layout;
+mod reading;
+mod writing;
+
+pub use crate::directory::{Directory, Stream};
+pub use crate::fault::DirFault;
+pub use crate::reading::{read_directory, read_directory_behind};
+pub use crate::writing::write_directory;
