@@ -1,10 +1,9 @@
 -- How many blocks streams have.
-use Rattle.std.proofs.Common.{◌≡◌, ◌≤◌, ◌+◌, ◌-◌, ℕ, suc, List, [], ◌∷◌, length, drop, refl, sym, ap, ◌∙◌, arith}
+use Rattle.std.proofs.Common.{◌≡◌, ◌+◌, ℕ, suc, List, [], ◌∷◌, length, drop, refl, sym, ap}
 use Rattle.std.specs.List.{sum_by}
-use Rattle.std.proofs.lemmas.List.{length-drop}
 use Rattle.std.proofs.lemmas.List.Sums.{sum_by-cons}
 use Rattle.stream_directory.specs.Directory.{block_count, skipped_count}
-use Rattle.stream_directory.specs.Reading.{directory_of, stream_of, streams_of}
+use Rattle.stream_directory.specs.Reading.{directory_of, streams_of}
 
 pub skipped_and_others : (block_size : ℕ) (sizes : List ℕ) → skipped_count block_size sizes + sum_by (block_count block_size) (drop 1 sizes) ≡ sum_by (block_count block_size) sizes
 skipped_and_others block_size [] = refl

@@ -1,8 +1,7 @@
 -- The fields of a text, read as words.
-use Rattle.std.proofs.Common.{◌≡◌, ◌≤◌, ◌<◌, ◌+◌, ◌-◌, ◌*◌, ◌/◌, ◌^◌, ℕ, zero, suc, List, [], ◌∷◌, ◌++◌, Result, Ok, Err, length, take, drop, refl, sym, ap, ◌∙◌, arith}
+use Rattle.std.proofs.Common.{◌≡◌, ◌≤◌, ◌<◌, ◌+◌, ◌*◌, ℕ, zero, suc, List, [], ◌∷◌, ◌++◌, Ok, Err, length, take, drop, refl, sym, ap, ◌∙◌, arith}
 use Rattle.std.proofs.lemmas.List.{append_assoc, drop-drop, length-drop}
 use Rattle.byteorder.specs.Endian.{little_number}
-use Rattle.stream_directory.specs.declared.fault.DirFault.{DirFault}
 use Rattle.stream_directory.specs.declared.fault.DirFault.TheVariants.{Short}
 use Rattle.stream_directory.specs.Reading.{◌>>=◌, fields_at, words_in}
 

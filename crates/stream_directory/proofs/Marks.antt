@@ -1,5 +1,5 @@
 -- Blocks that are marked as used, one after the other.
-use Rattle.std.proofs.Common.{◌≡◌, ◌≢◌, ◌≤◌, ◌<◌, ◌+◌, ◌||◌, ℕ, Bool, true, false, List, [], ◌∷◌, ◌++◌, Option, Some, None, length, get_or, take, drop, refl, sym, ap, ◌∙◌, inl, inr, arith, eqb}
+use Rattle.std.proofs.Common.{◌≡◌, ◌≢◌, ◌≤◌, ◌<◌, ◌+◌, ◌||◌, ℕ, Bool, true, false, List, [], ◌∷◌, ◌++◌, Option, Some, None, length, get_or, take, drop, refl, sym, ap, ◌∙◌, inl, inr, eqb}
 use Rattle.std.specs.List.{list_any}
 use Rattle.std.proofs.lemmas.Bool.{cases_eq, eq-eqb, ne_eqb}
 use Rattle.std.proofs.lemmas.List.{append_assoc, drop_all, drop_more, take_more}
@@ -19,12 +19,13 @@ marked_more bits new xs b marked set others k =
       | inr ne ↦ others k ne ∙ marked k ∙ sym (list_any-append (λ x. eqb x k) xs (b ∷ []) ∙ ap (λ t. list_any (λ x. eqb x k) xs || (t || false)) (ne_eqb b k (λ e. ne (sym e))) ∙ or_false (list_any (λ x. eqb x k) xs))
     ]
   where
-  or_true : (t : Bool) → (t || true) ≡ true
-  or_true true = refl
-  or_true false = refl
-  or_false : (t : Bool) → (t || false) ≡ t
-  or_false true = refl
-  or_false false = refl
+    or_true : (t : Bool) → (t || true) ≡ true
+    or_true true = refl
+    or_true false = refl
+
+    or_false : (t : Bool) → (t || false) ≡ t
+    or_false true = refl
+    or_false false = refl
 
 -- the blocks so far, and one more
 pub so_far : (earlier blocks : List ℕ) (i : ℕ) → i < length blocks → earlier ++ take (i + 1) blocks ≡ (earlier ++ take i blocks) ++ get_or blocks i 0 ∷ []

@@ -1,18 +1,18 @@
 -- The streams of a directory: what is read is spelled so, and what is spelled so is read.
-use Rattle.std.proofs.Common.{◌≡◌, ◌≤◌, ◌<◌, ◌+◌, ◌-◌, ◌*◌, ◌^◌, ℕ, zero, suc, Bool, true, false, cond, eqb, leb, List, [], ◌∷◌, ◌++◌, Option, Some, None, Result, Ok, Err, length, map, take, drop, get_or, refl, sym, ap, subst, ◌∙◌, inl, inr, lit<, arith}
+use Rattle.std.proofs.Common.{◌≡◌, ◌≤◌, ◌<◌, ◌+◌, ◌*◌, ◌^◌, ℕ, Bool, true, false, cond, eqb, leb, List, [], ◌∷◌, ◌++◌, Option, Some, None, Result, Ok, Err, length, map, take, drop, get_or, refl, sym, ap, subst, ◌∙◌, inl, inr, lit<, arith}
 use Rattle.std.specs.Prelude.{IfOk}
+use Rattle.std.specs.Global.{Vec}
 use Rattle.std.specs.List.{AllByRecursion, flat_map, list_any, sum_by}
 use Rattle.std.proofs.lemmas.Bool.{cases_Bool, cases_lt, eqb-true, eqb-false, eq-eqb, ne_eqb, leb-false, lt-leb, false_from_ne_true, both_ways}
-use Rattle.std.proofs.lemmas.List.{append_assoc, append-nil, take_all, drop_all, take_at, drop_at, take-append-drop, length-append, length-take, length-drop, length-map, nil_from_length}
+use Rattle.std.proofs.lemmas.List.{append-nil, take_all, drop_all, take_at, drop_at, take-append-drop, length-append, length-take, length-drop, length-map, nil_from_length}
 use Rattle.std.proofs.lemmas.List.Sums.{sum_by-cons}
 use Rattle.byteorder.specs.Endian.{little_bytes, little_number}
 use Rattle.msf_blocks.specs.declared.superblock.Super.{Super}
-use Rattle.msf_blocks.specs.Blocks.{IsReserved, is_reserved, blocks_of_size}
-use Rattle.msf_blocks.specs.Superblock.{IsSuper}
+use Rattle.msf_blocks.specs.Blocks.{is_reserved, blocks_of_size}
 use Rattle.msf_blocks.proofs.Numbers.{AreBytes, AreBytes-drop, little_bytes-little_number, little_number-little_bytes, little_number-lt}
 use Rattle.stream_directory.specs.declared.fault.DirFault.{DirFault}
-use Rattle.stream_directory.specs.declared.fault.DirFault.TheVariants.{Short, Extra, ReservedBlock, OutsideFile, BlockTwice, OutOfMemory}
-use Rattle.stream_directory.specs.Directory.{StreamBlocks, absent_size, size_field, blocks_in, block_count, skipped_count, word, numbers_behind, Spells, IsSized, IsFirst, AreSized, AreUsable, IsDirectory}
+use Rattle.stream_directory.specs.declared.fault.DirFault.TheVariants.{Extra, ReservedBlock, OutsideFile, BlockTwice}
+use Rattle.stream_directory.specs.Directory.{StreamBlocks, absent_size, size_field, blocks_in, block_count, skipped_count, word, numbers_behind, directory_text, Spells, IsSized, IsFirst, AreSized, AreUsable, IsDirectory}
 use Rattle.stream_directory.specs.Reading.{◌>>=◌, words_in, fields_at, parts_of, block_fault, or_fault, first_bad, stream_of, streams_of, directory_of, unless, reading, Gives}
 use Rattle.stream_directory.proofs.Counts.{length-directory_of, skipped_and_others}
 use Rattle.stream_directory.proofs.Fields.{fields_at-fits, fields_at-short}
@@ -97,10 +97,10 @@ fields_at-ok at n words xs rest e =
     elim (cases_lt (length words) n) [
       | inl short ↦ let no = fields_at-short at n words short in absurd cc
       | inr fits ↦
-        let pair : (take n words, drop n words) ≡ (xs, rest) = ok_is (take n words, drop n words) (xs, rest) (sym (fields_at-fits at n words fits) ∙ e) in
-        let front : take n words ≡ xs = ap (λ (p : List ℕ × List ℕ). p.0) pair in
-        let behind : drop n words ≡ rest = ap (λ (p : List ℕ × List ℕ). p.1) pair in
-        (sym (take-append-drop n words) ∙ ap (λ ys. ys ++ drop n words) front ∙ ap (λ ys. xs ++ ys) behind, ap length (sym front) ∙ omega (arith, length-take n words))
+          let pair : (take n words, drop n words) ≡ (xs, rest) = ok_is (take n words, drop n words) (xs, rest) (sym (fields_at-fits at n words fits) ∙ e) in
+          let front : take n words ≡ xs = ap (λ (p : List ℕ × List ℕ). p.0) pair in
+          let behind : drop n words ≡ rest = ap (λ (p : List ℕ × List ℕ). p.1) pair in
+          (sym (take-append-drop n words) ∙ ap (λ ys. ys ++ drop n words) front ∙ ap (λ ys. xs ++ ys) behind, ap length (sym front) ∙ omega (arith, length-take n words))
     ]
 
 -- what the parts of a text are
@@ -184,8 +184,8 @@ blocks_in-stream_of : (block_size size : ℕ) (blocks : List ℕ) → length blo
 blocks_in-stream_of block_size size blocks len =
     elim (cases_Bool (eqb size absent_size)) [
       | inl absent ↦
-        let none = len ∙ ap (λ t. cond t 0 (blocks_of_size block_size size)) absent in
-        ap (λ t. blocks_in (cond t None (Some (record { size = size; blocks = blocks })))) absent ∙ sym (nil_from_length blocks none)
+          let none = len ∙ ap (λ t. cond t 0 (blocks_of_size block_size size)) absent in
+          ap (λ t. blocks_in (cond t None (Some (record { size = size; blocks = blocks })))) absent ∙ sym (nil_from_length blocks none)
       | inr present ↦ ap (λ t. blocks_in (cond t None (Some (record { size = size; blocks = blocks })))) present
     ]
 
@@ -197,8 +197,8 @@ IsSized-stream_of block_size size blocks word len =
     elim (cases_Bool (eqb size absent_size)) [
       | inl absent ↦ subst (λ t. IsSized block_size (cond t None (Some (record { size = size; blocks = blocks })))) (sym absent) tt
       | inr present ↦
-        subst (λ t. IsSized block_size (cond t None (Some (record { size = size; blocks = blocks })))) (sym present)
-        (below_absent size word present, len ∙ ap (λ t. cond t 0 (blocks_of_size block_size size)) present)
+          subst (λ t. IsSized block_size (cond t None (Some (record { size = size; blocks = blocks })))) (sym present)
+          (below_absent size word present, len ∙ ap (λ t. cond t 0 (blocks_of_size block_size size)) present)
     ]
 
 IsFirst-stream_of : (size : ℕ) → IsWord size → IsFirst (stream_of size [])
@@ -224,7 +224,7 @@ streams_of-are block_size (size ∷ sizes) numbers words len =
     record {
       sizes_are = ap (λ k. k ∷ map size_field (streams_of block_size sizes (drop n numbers))) (size_field-stream_of size (take n numbers)) ∙ ap (λ ks. size ∷ ks) others.sizes_are;
       blocks_are = ap (λ xs. xs ++ flat_map blocks_in (streams_of block_size sizes (drop n numbers))) (blocks_in-stream_of block_size size (take n numbers) front)
-      ∙ ap (λ xs. take n numbers ++ xs) others.blocks_are ∙ take-append-drop n numbers;
+          ∙ ap (λ xs. take n numbers ++ xs) others.blocks_are ∙ take-append-drop n numbers;
       sized = (IsSized-stream_of block_size size (take n numbers) words.0 front, others.sized);
     }
 
@@ -263,18 +263,18 @@ usable_block s is_used b e =
     elim (cases_Bool (is_reserved s.block b)) [
       | inl reserved ↦ let no = ap (λ t. cond t (Some (ReservedBlock b)) (cond (leb s.blocks b) (Some (OutsideFile b)) (cond is_used (Some (BlockTwice b)) None))) reserved in absurd cc
       | inr free ↦
-        elim (cases_Bool (leb s.blocks b)) [
-          | inl outside ↦
-            let no = ap (λ t. cond t (Some (ReservedBlock b)) (cond (leb s.blocks b) (Some (OutsideFile b)) (cond is_used (Some (BlockTwice b)) None))) free
-            ∙ ap (λ t. cond t (Some (OutsideFile b)) (cond is_used (Some (BlockTwice b)) None)) outside in absurd cc
-          | inr inside ↦
-            elim (cases_Bool is_used) [
-              | inl twice ↦
+          elim (cases_Bool (leb s.blocks b)) [
+            | inl outside ↦
                 let no = ap (λ t. cond t (Some (ReservedBlock b)) (cond (leb s.blocks b) (Some (OutsideFile b)) (cond is_used (Some (BlockTwice b)) None))) free
-                ∙ ap (λ t. cond t (Some (OutsideFile b)) (cond is_used (Some (BlockTwice b)) None)) inside ∙ ap (λ t. cond t (Some (BlockTwice b)) None) twice in absurd cc
-              | inr once ↦ (free, leb-false s.blocks b inside, once)
-            ]
-        ]
+                ∙ ap (λ t. cond t (Some (OutsideFile b)) (cond is_used (Some (BlockTwice b)) None)) outside in absurd cc
+            | inr inside ↦
+                elim (cases_Bool is_used) [
+                  | inl twice ↦
+                      let no = ap (λ t. cond t (Some (ReservedBlock b)) (cond (leb s.blocks b) (Some (OutsideFile b)) (cond is_used (Some (BlockTwice b)) None))) free
+                      ∙ ap (λ t. cond t (Some (OutsideFile b)) (cond is_used (Some (BlockTwice b)) None)) inside ∙ ap (λ t. cond t (Some (BlockTwice b)) None) twice in absurd cc
+                  | inr once ↦ (free, leb-false s.blocks b inside, once)
+                ]
+          ]
     ]
 
 block_without_fault : (s : Super) (is_used : Bool) (b : ℕ) → is_reserved s.block b ≡ false → b < s.blocks → is_used ≡ false → block_fault s is_used b ≡ None
@@ -392,9 +392,9 @@ are_again block_size (x ∷ streams) h =
       words = (size_word block_size x h.0, others.words);
       count = omega (arith, sum_by-cons (block_count block_size) (size_field x) (map size_field streams), n, others.count, length-append (blocks_in x) rest);
       again = ap (λ xs. stream_of (size_field x) xs ∷ streams_of block_size (map size_field streams) (drop (block_count block_size (size_field x)) (blocks_in x ++ rest)))
-      (take_at (blocks_in x) rest (block_count block_size (size_field x)) (sym n))
-      ∙ ap (λ xs. stream_of (size_field x) (blocks_in x) ∷ streams_of block_size (map size_field streams) xs) (drop_at (blocks_in x) rest (block_count block_size (size_field x)) (sym n))
-      ∙ ap (λ y. y ∷ streams_of block_size (map size_field streams) rest) (stream_again block_size x h.0) ∙ ap (λ ys. x ∷ ys) others.again;
+          (take_at (blocks_in x) rest (block_count block_size (size_field x)) (sym n))
+          ∙ ap (λ xs. stream_of (size_field x) (blocks_in x) ∷ streams_of block_size (map size_field streams) xs) (drop_at (blocks_in x) rest (block_count block_size (size_field x)) (sym n))
+          ∙ ap (λ y. y ∷ streams_of block_size (map size_field streams) rest) (stream_again block_size x h.0) ∙ ap (λ ys. x ∷ ys) others.again;
     }
 
 -- a directory, stream 0 without its blocks
@@ -414,7 +414,7 @@ is_again block_size (x ∷ streams) h =
       words = (first_word x h.0, others.words);
       count = omega (arith, sum_by-cons (block_count block_size) (size_field x) (map size_field streams), others.count, length-append (blocks_in x) rest, none);
       again = ap (λ xs. stream_of (size_field x) [] ∷ streams_of block_size (map size_field streams) (xs ++ rest)) first.1
-      ∙ ap (λ y. y ∷ streams_of block_size (map size_field streams) rest) first.0 ∙ ap (λ ys. x ∷ ys) others.again;
+          ∙ ap (λ y. y ∷ streams_of block_size (map size_field streams) rest) first.0 ∙ ap (λ ys. x ∷ ys) others.again;
     }
 
 pub reading_again : (s : Super) (earlier bytes : List ℕ) (streams : List (Option StreamBlocks)) → s.blocks < 2 ^ 32 → IsDirectory s earlier streams → Spells s.block bytes streams → reading s earlier bytes ≡ Ok streams
@@ -434,3 +434,18 @@ reading_again s earlier bytes streams fit is spelled =
     ap (λ r. r >>= λ parts. let kept = drop (skipped_count s.block parts.0) parts.1 in unless (first_bad s earlier kept) (directory_of s.block parts.0 kept)) parts
     ∙ ap (λ kept. unless (first_bad s earlier kept) (directory_of s.block sizes kept)) kept
     ∙ ap (λ f. unless f (directory_of s.block sizes blocks)) (none_from_usable s earlier blocks is.usable) ∙ ap (λ d. Ok d) h.again
+
+-- a text that was written
+pub length-directory_text : (streams : List (Option StreamBlocks)) → length (directory_text streams) ≡ 4 + 4 * length streams + 4 * length (flat_map blocks_in streams)
+unfolding directory_text
+length-directory_text streams =
+    omega (arith, length-words (numbers_behind [] streams), length-append (map size_field streams) (flat_map blocks_in streams), length-map streams size_field)
+
+pub Spells-directory_text : (block_size : ℕ) (streams : List (Option StreamBlocks)) (text : List ℕ) → skipped_count block_size (map size_field streams) ≡ 0 → text ≡ directory_text streams → Spells block_size text streams
+unfolding directory_text
+Spells-directory_text block_size streams text none is = record { skipped = []; words = tt; count = sym none; text = is }
+
+-- an answer that wrote a text
+pub on_written : {E : Type 0} (streams : List (Option StreamBlocks)) (r : Result (Vec ℕ) E) (P : List ℕ → Type 0) → IfOk r (λ text. text.items ≡ directory_text streams) → P (directory_text streams) → IfOk r (λ text. P text.items)
+on_written streams (Ok text) P is p = subst P (sym is) p
+on_written streams (Err e) P is p = tt

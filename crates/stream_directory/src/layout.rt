@@ -50,7 +50,11 @@ pub fn skipped_count(block_size: u32, sizes: &[u32]) -> u32
 
 /// The sizes and the block numbers among all words of a text of so many bytes.
 #[tactic(auto, unfolding(crate::specs::Reading::parts_of))]
-pub fn parts_of<'a>(words: &'a [u32], bytes: &[u8], block_size: u32) -> Result<(&'a [u32], &'a [u32]), DirFault>
+pub fn parts_of<'a>(
+    words: &'a [u32],
+    bytes: &[u8],
+    block_size: u32,
+) -> Result<(&'a [u32], &'a [u32]), DirFault>
     requires size { IsBlockSize block_size }
     requires words { words.now ≡ words_in bytes.now }
     ensures few { IfOk result (λ x. length x.0.now < 2 ^ 32) }

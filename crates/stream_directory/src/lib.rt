@@ -12,3 +12,6 @@ pub use crate::directory::{Directory, Stream};
 pub use crate::fault::DirFault;
 pub use crate::reading::{read_directory, read_directory_behind};
 pub use crate::writing::write_directory;
+
+#[cfg(test)]
+mod tests;

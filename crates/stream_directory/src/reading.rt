@@ -29,7 +29,12 @@ pub fn read_directory(alloc: Global, bytes: &[u8], s: &Super) -> Result<Director
 
 /// The same in a file that uses some blocks already, such as those of the directory itself: a stream that
 /// has one of them uses it twice.
-pub fn read_directory_behind(alloc: Global, bytes: &[u8], s: &Super, earlier: &[u32]) -> Result<Directory, DirFault>
+pub fn read_directory_behind(
+    alloc: Global,
+    bytes: &[u8],
+    s: &Super,
+    earlier: &[u32],
+) -> Result<Directory, DirFault>
     requires superblock { IsSuper s.now }
     requires inside { All (λ b. b < s.now.blocks) earlier.now }
     ensures found { IfOk result (IsDirectory s.now earlier.now) }
@@ -42,7 +47,12 @@ pub fn read_directory_behind(alloc: Global, bytes: &[u8], s: &Super, earlier: &[
 
 // The directory that bytes spell, or the first fault.
 #[tactic(auto, unfolding(crate::specs::Reading::reading))]
-fn read_parts(alloc: Global, bytes: &[u8], s: &Super, earlier: &[u32]) -> Result<Directory, DirFault>
+fn read_parts(
+    alloc: Global,
+    bytes: &[u8],
+    s: &Super,
+    earlier: &[u32],
+) -> Result<Directory, DirFault>
     requires superblock { IsSuper s.now }
     requires inside { All (λ b. b < s.now.blocks) earlier.now }
     ensures { Gives (λ d. d) result (reading s.now earlier.now bytes.now) }
@@ -56,7 +66,12 @@ fn read_parts(alloc: Global, bytes: &[u8], s: &Super, earlier: &[u32]) -> Result
 }
 
 // The streams of these sizes, with their blocks but for stream 0.
-fn directory_of(alloc: Global, block_size: u32, sizes: &[u32], numbers: &[u32]) -> Result<Vec<Option<Stream>>, AllocError>
+fn directory_of(
+    alloc: Global,
+    block_size: u32,
+    sizes: &[u32],
+    numbers: &[u32],
+) -> Result<Vec<Option<Stream>>, AllocError>
     requires size { IsBlockSize block_size }
     requires enough { sum_by (block_count block_size) (drop 1 sizes.now) ≤ length numbers.now }
     ensures { IfOk result (λ streams. streams.items ≡ directory_of block_size sizes.now numbers.now) }
@@ -80,7 +95,13 @@ fn stream_of(alloc: Global, size: u32, blocks: &[u32]) -> Result<Option<Stream>,
 }
 
 // Puts further streams behind others.
-fn push_streams(alloc: Global, streams: &mut Vec<Option<Stream>>, block_size: u32, sizes: &[u32], numbers: &[u32]) -> Result<(), AllocError>
+fn push_streams(
+    alloc: Global,
+    streams: &mut Vec<Option<Stream>>,
+    block_size: u32,
+    sizes: &[u32],
+    numbers: &[u32],
+) -> Result<(), AllocError>
     requires size { IsBlockSize block_size }
     requires enough { sum_by (block_count block_size) sizes.now ≤ length numbers.now }
     ensures { OnOk result (streams.new.items ≡ streams.old.items ++ streams_of block_size sizes.now numbers.now) }

@@ -1,14 +1,23 @@
-ghost use Rattle.std.specs.Prelude.{◌≡◌, ◌<◌, ◌^◌, ◌++◌, length, map, IfOk, OnOk};
+ghost use Rattle.std.specs.Prelude.{◌≡◌, ℕ, ◌+◌, ◌*◌, ◌++◌, length, map, IfOk, OnOk};
 ghost use Rattle.std.specs.List.{flat_map};
-ghost use Rattle.stream_directory.specs.Directory.{blocks_in, directory_text, size_field, word};
+ghost use Rattle.stream_directory.specs.Directory.{Spells, blocks_in, directory_text, size_field, skipped_count, word};
 
 use crate::directory::{Directory, Stream};
 use byteorder::{ByteOrder, LittleEndian};
 use std::alloc::{AllocError, Global};
 
 /// The text of a directory: how many streams there are, their sizes, and the blocks of each in order.
-#[tactic(auto, unfolding(crate::specs::Directory::directory_text))]
 pub fn write_directory(alloc: Global, d: &Directory) -> Result<Vec<u8>, AllocError>
+    ensures text { IfOk result (λ text. text.items ≡ directory_text d.now) }
+    ensures len { IfOk result (λ text. length text.items ≡ 4 + 4 * length d.now + 4 * length (flat_map blocks_in d.now)) }
+    // The text spells the directory, where stream 0 has no blocks.
+    ensures spells { (block_size : ℕ) → skipped_count block_size (map size_field d.now) ≡ 0 → IfOk result (λ text. Spells block_size text.items d.now) }
+{
+    put_directory(alloc, d)
+}
+
+#[tactic(auto, unfolding(crate::specs::Directory::directory_text))]
+fn put_directory(alloc: Global, d: &Directory) -> Result<Vec<u8>, AllocError>
     ensures { IfOk result (λ text. text.items ≡ directory_text d.now) }
 {
     let mut text = Vec::new(alloc);

@@ -1,4 +1,4 @@
-use Rattle.std.proofs.Common.{Ok, ap, sym, ◌∙◌, arith}
+use Rattle.std.proofs.Common.{arith}
 use Rattle.stream_directory.proofs.Fields.{fields_at-fits, fields_at-short}
 use Rattle.stream_directory.proofs.layout.fields_at.Goals as goal
 

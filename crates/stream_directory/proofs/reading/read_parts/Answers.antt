@@ -1,8 +1,5 @@
-use Rattle.std.proofs.Common.{◌≡◌, ◌≤◌, ◌+◌, ◌-◌, length, take, drop, ap, ◌∙◌, arith}
-use Rattle.std.proofs.lemmas.Grind.{common_steps}
+use Rattle.std.proofs.Common.{◌-◌, length, take, drop, ap, ◌∙◌, arith}
 use Rattle.std.proofs.lemmas.List.{length-drop, length-take}
-use Rattle.std.specs.List.{sum_by}
-use Rattle.stream_directory.specs.Directory.{block_count, skipped_count}
 use Rattle.stream_directory.proofs.Counts.{length-directory_of, skipped_and_others}
 use Rattle.stream_directory.proofs.reading.read_parts.Goals as goal
 
