@@ -1,12 +1,15 @@
 -- The numbers below another that pass a test.
-use Rattle.std.proofs.Common.{All, ◌≡◌, ◌≤◌, ◌<◌, ◌+◌, ◌||◌, ◌&&◌, not, ℕ, zero, suc, Bool, true, false, List, ◌∷◌, refl, ap, ◌∙◌, inl, inr, arith, eqb, cond}
+use Rattle.std.proofs.Common.{All, ◌≡◌, ◌≢◌, ◌≤◌, ◌<◌, ◌+◌, ◌*◌, ◌/◌, ◌%◌, ◌||◌, ◌&&◌, not, ℕ, zero, suc, Bool, true, false, List, [], ◌∷◌, length, map, replicate, refl, ap, sym, ◌∙◌, inl, inr, arith, eqb, cond}
+use Rattle.std.specs.Int.{bit_at}
 use Rattle.std.specs.Prelude.{filter}
 use Rattle.std.specs.List.{list_any, range_with_len}
-use Rattle.std.proofs.lemmas.Bool.{cases_lt, cases_eq, eq-eqb, ne_eqb, and_parts, both_ways, not-true}
+use Rattle.std.proofs.lemmas.Bool.{agree_below_at, cases_lt, cases_eq, eq-eqb, ne_eqb, and_parts, and_right, both_ways, not-true}
+use Rattle.std.proofs.lemmas.List.{get_or-replicate, length-append, map-id}
 use Rattle.std.proofs.lemmas.List.Elements.{All-weaker, filter_passes}
+use Rattle.std.proofs.lemmas.List.FromFn.{filter_of_map_range_with_len_more, length-range_with_len}
 use Rattle.msf_blocks.specs.Blocks.{IsReserved, is_reserved}
 use Rattle.msf_blocks.specs.Bits.{has_bit}
-use Rattle.free_page_maps.specs.FreeBlocks.{IsLeastFree, below_where, is_free}
+use Rattle.free_page_maps.specs.FreeBlocks.{IsLeastFree, below_where, free_in, is_free, unreserved_where}
 use Rattle.free_page_maps.specs.Lowest.{IsLowestBit}
 
 -- two tests that agree from a on, over n numbers
@@ -97,3 +100,67 @@ unreserved_where-unreserved block_size n test =
     All-weaker (λ b. (not (is_reserved block_size b) && test b) ≡ true) (λ b. ¬ IsReserved block_size b)
     (λ b passes reserved. both_ways (is_reserved block_size b) (not-true (is_reserved block_size b) (and_parts (not (is_reserved block_size b)) (test b) passes).0) reserved)
     (filter (λ b. not (is_reserved block_size b) && test b) (range_with_len 0 n)) (filter_passes (λ b. not (is_reserved block_size b) && test b) (range_with_len 0 n))
+
+-- one number more
+pub length-below_where-more : (n : ℕ) (p : ℕ → Bool) → length (below_where (n + 1) p) ≡ length (below_where n p) + cond (p n) 1 0
+unfolding below_where
+length-below_where-more n p =
+    ap (λ xs. length (filter p xs)) (sym (map-id (range_with_len 0 (n + 1)))) ∙ ap length (filter_of_map_range_with_len_more p (λ (x : ℕ). x) 0 n n (omega arith))
+    ∙ length-append (filter p (map (λ (x : ℕ). x) (range_with_len 0 n))) (cond (p n) (n ∷ []) []) ∙ ap (λ xs. length (filter p xs) + length (cond (p n) (n ∷ []) [])) (map-id (range_with_len 0 n))
+    ∙ ap (λ k. length (filter p (range_with_len 0 n)) + k) (one_or_none (p n))
+  where
+    one_or_none : (t : Bool) → length (cond t (n ∷ []) []) ≡ cond t 1 0
+    one_or_none true = refl
+    one_or_none false = refl
+
+pub below_where-none : (p : ℕ → Bool) → below_where 0 p ≡ []
+unfolding below_where
+below_where-none p = refl
+
+filter-le : (p : ℕ → Bool) (xs : List ℕ) → length (filter p xs) ≤ length xs
+filter-le p [] = omega arith
+filter-le p (x ∷ xs) = step (p x) (filter-le p xs)
+  where
+    step : (t : Bool) → length (filter p xs) ≤ length xs → length (cond t (x ∷ filter p xs) (filter p xs)) ≤ suc (length xs)
+    step true h = omega (arith, h)
+    step false h = omega (arith, h)
+
+pub length-below_where-le : (n : ℕ) (p : ℕ → Bool) → length (below_where n p) ≤ n
+unfolding below_where
+length-below_where-le n p = omega (arith, filter-le p (range_with_len 0 n), length-range_with_len 0 n)
+
+-- what passes both tests
+filter-filter : (p q : ℕ → Bool) (xs : List ℕ) → filter p (filter q xs) ≡ filter (λ k. q k && p k) xs
+filter-filter p q [] = refl
+filter-filter p q (x ∷ xs) = step (q x) (p x) (filter-filter p q xs)
+  where
+    step : (t u : Bool) → filter p (filter q xs) ≡ filter (λ k. q k && p k) xs → filter p (cond t (x ∷ filter q xs) (filter q xs)) ≡ cond (t && p x) (x ∷ filter (λ k. q k && p k) xs) (filter (λ k. q k && p k) xs)
+    step true u h = ap (λ ys. cond (p x) (x ∷ ys) ys) h
+    step false u h = h
+
+-- a bit that is cleared
+pub below_where-cleared : (n b : ℕ) (bits new : List ℕ) → has_bit new b ≡ false → ((k : ℕ) → k ≢ b → has_bit new k ≡ has_bit bits k)
+    → below_where n (has_bit new) ≡ filter (λ k. not (eqb k b)) (below_where n (has_bit bits))
+unfolding below_where
+below_where-cleared n b bits new cleared others =
+    same_filter (has_bit new) (λ k. has_bit bits k && not (eqb k b)) 0 n
+    (λ k from to.
+    elim (cases_eq k b) [
+      | inl e ↦ ap (has_bit new) e ∙ cleared ∙ sym (ap (λ t. has_bit bits k && not t) (eq-eqb k b e) ∙ and_right (has_bit bits k) false refl)
+      | inr ne ↦ others k ne ∙ sym (ap (λ t. has_bit bits k && not t) (ne_eqb k b ne) ∙ and_true (has_bit bits k))
+    ])
+    ∙ sym (filter-filter (λ k. not (eqb k b)) (has_bit bits) (range_with_len 0 n))
+  where
+    and_true : (t : Bool) → (t && true) ≡ t
+    and_true true = refl
+    and_true false = refl
+
+-- every bit of bytes of ones
+pub ones-has_bit : (bytes b : ℕ) → b < 8 * bytes → has_bit (replicate bytes 255) b ≡ true
+ones-has_bit bytes b lt =
+    ap (λ x. eqb (bit_at x (b % 8)) 1) (get_or-replicate bytes (b / 8) 255 0 (omega (arith, lt))) ∙ agree_below_at (λ k. eqb (bit_at 255 k) 1) (λ k. true) 8 (b % 8) refl (omega arith)
+
+pub all_free-is : (block_size n bytes : ℕ) → n ≤ 8 * bytes → free_in block_size n (replicate bytes 255) ≡ unreserved_where block_size n (λ _. true)
+all_free-is block_size n bytes enough =
+    ap (λ free. record { blocks = n; free = free }) (below_where-same n (λ b. not (is_reserved block_size b) && has_bit (replicate bytes 255) b) (λ b. not (is_reserved block_size b) && true)
+    (λ b lt. ap (λ t. not (is_reserved block_size b) && t) (ones-has_bit bytes b (omega (arith, enough, lt)))))

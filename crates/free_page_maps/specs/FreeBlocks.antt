@@ -30,3 +30,7 @@ pub record IsLeastFree (m : FreeBlocks) (from b : ℕ) : Type 0 where
   pub among : is_free m b ≡ true
   pub enough : from ≤ b
   pub least : (k : ℕ) → from ≤ k → k < b → is_free m k ≡ false
+
+-- the same with one block that is not free
+abbrev pub without : FreeBlocks → ℕ → FreeBlocks
+without m b = record { blocks = m.blocks; free = filter (λ k. not (k == b)) m.free }

@@ -1,12 +1,13 @@
-ghost use Rattle.std.specs.Prelude.{◌≡◌, ◌≤◌, ◌<◌, ℕ, ◌*◌, false, length, All, IfOk, MatchOption};
+ghost use Rattle.std.specs.Prelude.{◌≡◌, ◌≤◌, ◌<◌, ℕ, ◌*◌, true, false, length, All, IfOk, MatchOption};
 ghost use Rattle.msf_blocks.specs.Blocks.{IsBlockSize, IsMap, IsReserved};
-ghost use Rattle.free_page_maps.specs.FreeBlocks.{IsLeastFree, free_in, is_free};
+ghost use Rattle.free_page_maps.specs.FreeBlocks.{IsLeastFree, free_in, is_free, unreserved_where, without};
 ghost use Rattle.free_page_maps.specs.MapText.{map_text};
 
+use crate::counting::count_ones;
 use crate::lowest::lowest_bit;
 use crate::padding::padded;
 use crate::reserved::clear_reserved;
-use msf_blocks::map_blocks;
+use msf_blocks::{clear_bit, has_bit, map_blocks};
 use std::alloc::{AllocError, Global};
 use std::marker::Model;
 
@@ -49,6 +50,16 @@ impl FreeMap {
         Ok(FreeMap { bits, blocks })
     }
 
+    /// The map of a file in which no block is used.
+    pub fn all_free(alloc: Global, block_size: u32, blocks: u32) -> Result<FreeMap, AllocError>
+        requires { IsBlockSize block_size }
+        ensures free { IfOk result (λ m. m ≡ unreserved_where block_size blocks (λ _. true)) }
+        ensures unreserved { IfOk result (λ m. All (λ b. ¬ IsReserved block_size b) m.free) }
+    {
+        let ones = vec![in alloc; 0xff; blocks.div_ceil(8) as usize]?;
+        FreeMap::gather(alloc, block_size, blocks, &ones)
+    }
+
     /// Writes the joined blocks of the map that carry meaning.
     pub fn scatter(&self, alloc: Global, block_size: u32) -> Result<Vec<u8>, AllocError>
         requires size { IsBlockSize block_size }
@@ -60,6 +71,35 @@ impl FreeMap {
         let bytes = map_blocks(block_size, self.blocks) as usize * block_size as usize;
         let maps = padded(alloc, &self.bits, self.blocks, bytes)?;
         Ok(maps)
+    }
+
+    /// The blocks of the file.
+    pub fn blocks(&self) -> u32
+        ensures { result ≡ self.now.blocks }
+    {
+        self.blocks
+    }
+
+    /// How many blocks are free.
+    pub fn len(&self) -> u32
+        ensures { result ≡ length self.now.free }
+    {
+        count_ones(&self.bits, self.blocks)
+    }
+
+    /// Whether a block is free.
+    pub fn is_free(&self, b: u32) -> bool
+        ensures { result ≡ is_free self.now b }
+    {
+        b < self.blocks && has_bit(&self.bits, b)
+    }
+
+    /// Makes a block of the file one that is not free.
+    pub fn use_block(&mut self, b: u32)
+        requires { b < self.old.blocks }
+        ensures { self.new ≡ without self.old b }
+    {
+        clear_bit(&mut self.bits, b);
     }
 
     /// The least free block from a block on.

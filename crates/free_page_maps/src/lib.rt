@@ -1,6 +1,7 @@
 //! The free block maps: a map is read as its rising list of free blocks, and written from it.
 #![tactic(auto)]
 
+mod counting;
 mod free_map;
 mod lowest;
 mod padding;

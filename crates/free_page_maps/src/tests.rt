@@ -74,3 +74,18 @@ fn other_map(rt: HostRuntime) {
     assert_eq!(rt; other(1), 2);
     assert_eq!(rt; other(2), 1);
 }
+
+// All blocks of a file but the 19 reserved ones, and then without block 3.
+#[test]
+fn used_blocks(rt: HostRuntime) -> Result<(), Fail> {
+    let mut map = FreeMap::all_free(rt.alloc(), 512, 4200)?;
+    assert_eq!(rt; map.blocks(), 4200);
+    assert_eq!(rt; map.len(), 4181);
+    assert!(rt; map.is_free(3) && !map.is_free(513) && !map.is_free(4200));
+    assert!(rt; map.blocks() > 3);
+    map.use_block(3);
+    assert!(rt; !map.is_free(3));
+    assert_eq!(rt; map.len(), 4180);
+    assert_eq!(rt; map.lowest_free(0), Some(4));
+    Ok(())
+}
