@@ -4,6 +4,9 @@ ghost use Rattle.stream_directory.specs.Directory.{absent_size, stream_at};
 
 use std::marker::Model;
 
+/// The number that stands for the size of an absent stream.
+pub const ABSENT_SIZE: u32 = 0xffff_ffff;
+
 /// A stream that is there: its size in bytes, and the blocks that hold them.
 #[derive(Drop)]
 pub struct Stream {

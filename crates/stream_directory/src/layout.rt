@@ -6,13 +6,11 @@ ghost use Rattle.msf_blocks.specs.Blocks.{IsBlockSize};
 ghost use Rattle.stream_directory.specs.Directory.{block_count, skipped_count};
 ghost use Rattle.stream_directory.specs.Reading.{Gives, fields_at, parts_of, words_in};
 
+use crate::directory::ABSENT_SIZE;
 use crate::fault::DirFault;
 use byteorder::{ByteOrder, LittleEndian};
 use msf_blocks::blocks_of_size;
 use std::alloc::{AllocError, Global};
-
-// The size that marks an absent stream.
-const ABSENT: u32 = 0xffff_ffff;
 
 /// The whole numbers of four bytes in the bytes.
 pub fn words_of(alloc: Global, bytes: &[u8]) -> Result<Vec<u32>, AllocError>
@@ -30,7 +28,7 @@ pub fn block_count(block_size: u32, size: u32) -> u32
     requires { IsBlockSize block_size }
     ensures { result ≡ block_count block_size size }
 {
-    if size == ABSENT {
+    if size == ABSENT_SIZE {
         0
     } else {
         blocks_of_size(block_size, size)

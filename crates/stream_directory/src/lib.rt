@@ -8,7 +8,7 @@ mod layout;
 mod reading;
 mod writing;
 
-pub use crate::directory::{Directory, Stream};
+pub use crate::directory::{ABSENT_SIZE, Directory, Stream};
 pub use crate::fault::DirFault;
 pub use crate::reading::{read_directory, read_directory_behind};
 pub use crate::writing::write_directory;

@@ -5,7 +5,7 @@ ghost use Rattle.msf_blocks.specs.Superblock.{IsSuper};
 ghost use Rattle.stream_directory.specs.Directory.{IsDirectory, Spells, StreamBlocks, block_count};
 ghost use Rattle.stream_directory.specs.Reading.{Gives, directory_of, reading, stream_of, streams_of};
 
-use crate::directory::{Directory, Stream};
+use crate::directory::{ABSENT_SIZE, Directory, Stream};
 use crate::fault::DirFault;
 use crate::judging::judge;
 use crate::layout::{block_count, parts_of, skipped_count, words_of};
@@ -88,7 +88,7 @@ fn directory_of(
 fn stream_of(alloc: Global, size: u32, blocks: &[u32]) -> Result<Option<Stream>, AllocError>
     ensures { IfOk result (λ stream. stream ≡ stream_of size blocks.now) }
 {
-    if size == 0xffff_ffff {
+    if size == ABSENT_SIZE {
         return Ok(None);
     }
     Ok(Some(Stream::new(size, Vec::from_slice(alloc, blocks)?)))

@@ -2,7 +2,7 @@ ghost use Rattle.std.specs.Prelude.{◌≡◌, ℕ, ◌+◌, ◌*◌, ◌++◌, 
 ghost use Rattle.std.specs.List.{flat_map};
 ghost use Rattle.stream_directory.specs.Directory.{Spells, blocks_in, directory_text, size_field, skipped_count, word};
 
-use crate::directory::{Directory, Stream};
+use crate::directory::{ABSENT_SIZE, Directory, Stream};
 use byteorder::{ByteOrder, LittleEndian};
 use std::alloc::{AllocError, Global};
 
@@ -70,6 +70,6 @@ fn size_field(stream: &Option<Stream>) -> u32
 {
     match stream {
         Some(s) => s.size(),
-        None => 0xffff_ffff,
+        None => ABSENT_SIZE,
     }
 }
