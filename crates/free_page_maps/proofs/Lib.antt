@@ -1,0 +1,4 @@
+pub mod Masks
+pub mod Scanning
+pub mod Listing
+pub mod MapTexts

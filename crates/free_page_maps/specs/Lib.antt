@@ -1,0 +1,3 @@
+pub mod FreeBlocks
+pub mod MapText
+pub mod Lowest

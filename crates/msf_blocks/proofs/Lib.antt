@@ -1,0 +1,5 @@
+pub mod BitWrites
+pub mod Numbers
+pub mod Sizes
+pub mod Passing
+pub mod SuperblockTexts

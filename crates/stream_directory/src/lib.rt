@@ -1,0 +1,17 @@
+//! The stream directory, read from its bytes and written again.
+#![tactic(auto)]
+
+mod directory;
+mod fault;
+mod judging;
+mod layout;
+mod reading;
+mod writing;
+
+pub use crate::directory::{ABSENT_SIZE, Directory, Stream};
+pub use crate::fault::DirFault;
+pub use crate::reading::{read_directory, read_directory_behind};
+pub use crate::writing::write_directory;
+
+#[cfg(test)]
+mod tests;
