@@ -1,8 +1,7 @@
 -- What a run of the program does.
-use Rattle.std.specs.Prelude.{◌≡◌, ◌^◌, ⊤, ℕ, List, [], Bool, length}
+use Rattle.std.specs.Prelude.{◌≡◌, ◌^◌, ⊤, ℕ, List, []}
 use Rattle.srv_edge.specs.declared.failed.SessionEnd.{SessionEnd}
 use Rattle.srv_edge.specs.declared.failed.SessionEnd.TheVariants as end
-use Rattle.srv_edge.specs.Frames.{Tail, at_end, cut_short, bad_length, at_bye}
 use Rattle.request_frames.specs.Session.{IsSession}
 use Rattle.client_session.specs.Tables.{Tables, Answers}
 use Rattle.mspdbsrv.specs.declared.status.Status.{Status}

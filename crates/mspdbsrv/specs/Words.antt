@@ -1,5 +1,5 @@
 -- The forms of a command line.
-use Rattle.std.specs.Prelude.{List, ℕ, [], ◌∷◌, Option, None, Some, Result, Ok, Err, if◌then◌else◌, codes}
+use Rattle.std.specs.Prelude.{List, ℕ, [], ◌∷◌, Option, None, Some, if◌then◌else◌, codes}
 use Rattle.std.specs.Str.{bytes_eq}
 use Rattle.mspdbsrv.specs.declared.plan.Plan.{Plan}
 use Rattle.mspdbsrv.specs.declared.plan.Plan.TheVariants.{Session}

@@ -293,6 +293,85 @@ fn limit_of_one_frame(rt: HostRuntime) -> Result<(), Fail> {
     Ok(())
 }
 
+// Two records of twelve bytes, and the first again.
+const THREE: &str = "0d000000020a000110740000000100f2f1 0d000000020a000110740000000100f1f1
+    0d000000020a000110740000000100f2f1";
+
+const NAMES: &str =
+    "020000000461 020000000462 020000000461 0100000004 050000000703000000 0100000009";
+
+// The replies over empty tables that hold so many records, bytes of records and bytes of names.
+fn talk_within(alloc: Global, limits: (u8, u8, u8), input: &str) -> Result<String, Fail> {
+    let limits = Limits {
+        records: u32::from(limits.0),
+        bytes: u32::from(limits.1),
+        name_bytes: u32::from(limits.2).max(1),
+        calls: 1,
+        blocks: 9,
+    };
+    let mut link = MemLink {
+        source: source_of(alloc, input, 255, &[])?,
+        sink: MemSink::new(alloc, Vec::new(alloc)),
+    };
+    let mut desk = Bare::new(alloc, limits)?;
+    let mut room = Room::new(alloc)?;
+    serve_link(&(), &mut link, &mut desk, u64::from(u32::MAX), &mut room);
+    Ok(hex::encode(alloc, link.sink.taken())?)
+}
+
+// Each limit is met at its number and refused one past it, with the number that would be needed; what
+// is there is still found.
+#[test]
+fn limits_at_their_numbers(rt: HostRuntime) -> Result<(), Fail> {
+    let rows = [
+        // two records, and the first again
+        (
+            (2, 24, 5),
+            THREE,
+            "050000008200100000 050000008201100000 050000008200100000",
+        ),
+        (
+            (1, 24, 5),
+            THREE,
+            "050000008200100000 0a000000ff060100000001000000 050000008200100000",
+        ),
+        (
+            (2, 23, 5),
+            THREE,
+            "050000008200100000 0a000000ff060200000018000000 050000008200100000",
+        ),
+        (
+            (2, 20, 5),
+            THREE,
+            "050000008200100000 0a000000ff060200000018000000 050000008200100000",
+        ),
+        // the names a and b, then a again, the empty name, b by its offset, and the counts
+        (
+            (2, 24, 5),
+            NAMES,
+            "050000008401000000 050000008403000000 050000008401000000 050000008400000000 020000008762
+             0d00000089000000000000000002000000",
+        ),
+        (
+            (2, 24, 4),
+            NAMES,
+            "050000008401000000 0a000000ff060300000005000000 050000008401000000 050000008400000000
+             0a000000ff050200000003000000 0d00000089000000000000000001000000",
+        ),
+        (
+            (2, 24, 3),
+            NAMES,
+            "050000008401000000 0a000000ff060300000005000000 050000008401000000 050000008400000000
+             0a000000ff050200000003000000 0d00000089000000000000000001000000",
+        ),
+    ];
+    for (limits, input, replies) in rows {
+        let got = talk_within(rt.alloc(), limits, input)?;
+        assert_eq!(rt; got.as_str(), packed(rt.alloc(), replies)?.as_str());
+    }
+    Ok(())
+}
+
 // A sink that takes one byte a call.
 #[derive(Drop)]
 struct Drip {

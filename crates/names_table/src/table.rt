@@ -2,30 +2,32 @@ ghost use Rattle.std.specs.Prelude.{◌≡◌, ◌≤◌, ◌^◌, ◌↔◌, �
 ghost use Rattle.std.specs.Option.{option_copied};
 ghost use Rattle.names_table.specs.Names.{IsName, Names, after_add, answer_to_add, appends, bytes_of, name_at, offset_of};
 
+use crate::entries::{append, find_name};
 use crate::fault::NameFault;
-use crate::search::{find_name, find_offset};
-use srv_edge::{Limits, RecordList};
+use indexmap::IndexMap;
+use srv_edge::Limits;
 use std::alloc::{AllocError, Global};
 use std::marker::Model;
 
-/// The names of one file, searched from the front.
+/// The names of one file, each found by its text.
 #[derive(Drop)]
 pub struct NamesTable {
     max_bytes: u32,
     version: u32,
-    names: RecordList,
+    offsets: IndexMap<Vec<u8>, u32>,
     bytes: u32,
 }
 
 impl Model for NamesTable {
     ghost use Rattle.std.specs.Prelude.{◌≡◌, ◌≤◌, ◌^◌, All};
+    ghost use Rattle.names_table.specs.Entries.{InPlace, names_of};
     ghost use Rattle.names_table.specs.Names.{IsName, Names, bytes_of};
 
     ghost Value = { Names };
 
-    ghost view = { λ t. record { max_bytes = t.max_bytes; version = t.version; names = t.names } };
+    ghost view = { λ t. record { max_bytes = t.max_bytes; version = t.version; names = names_of t.offsets.entries } };
 
-    ghost invariant = { λ t. All IsName t.names × (t.bytes ≡ bytes_of t.names) × (t.bytes ≤ t.max_bytes) × (t.max_bytes ≤ 2 ^ 28) };
+    ghost invariant = { λ t. All IsName (names_of t.offsets.entries) × InPlace 1 t.offsets.entries × (t.bytes ≡ bytes_of (names_of t.offsets.entries)) × (t.bytes ≤ t.max_bytes) × (t.max_bytes ≤ 2 ^ 28) };
 }
 
 impl NamesTable {
@@ -37,7 +39,7 @@ impl NamesTable {
         Ok(NamesTable {
             max_bytes: limits.name_bytes,
             version,
-            names: RecordList::new(alloc),
+            offsets: IndexMap::new(alloc),
             bytes: 1,
         })
     }
@@ -59,7 +61,7 @@ impl NamesTable {
         if needed > self.max_bytes {
             return Err(NameFault::Full { needed });
         }
-        match self.names.push(name) {
+        match append(&mut self.offsets, name, offset) {
             Ok(()) => {
                 self.bytes = needed;
                 Ok(offset)
@@ -75,7 +77,7 @@ impl NamesTable {
         if name.is_empty() {
             return Some(0);
         }
-        find_offset(&self.names, name)
+        self.offsets.get(name).copied()
     }
 
     /// The name that begins at an offset: the empty one at 0.
@@ -86,20 +88,20 @@ impl NamesTable {
         if offset == 0 {
             return Some(&[]);
         }
-        find_name(&self.names, offset)
+        find_name(&self.offsets, offset)
     }
 
     /// How many names there are, the empty one at 0 not among them.
     pub fn len(&self) -> u32
         ensures { result ≡ length self.now.names }
     {
-        self.names.len()
+        self.offsets.len() as u32
     }
 
     pub fn is_empty(&self) -> bool
         ensures { IsTrue result ↔ (self.now.names ≡ []) }
     {
-        self.names.is_empty()
+        self.offsets.is_empty()
     }
 
     /// How many bytes the names take, with a NUL behind each and one before all.

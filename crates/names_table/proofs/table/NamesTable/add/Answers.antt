@@ -1,17 +1,19 @@
-use Rattle.std.proofs.Common.{arith}
+use Rattle.std.proofs.Common.{ap, sym, ◌∙◌, arith}
 use Rattle.std.proofs.lemmas.List.Elements.{All-push}
-use Rattle.names_table.specs.Names.{IsName}
-use Rattle.names_table.proofs.Offsets.{bytes_of-push, joined-le, length-le}
+use Rattle.names_table.specs.Entries.{names_of}
+use Rattle.names_table.specs.Names.{IsName, offset_from}
+use Rattle.names_table.proofs.Offsets.{bytes_of-push, lookup-offset, offset_of-none}
 use Rattle.names_table.proofs.table.NamesTable.add.Goals as goal
 
-pub push-requires-clause-records : goal.push-requires-clause-records
-push-requires-clause-records c = omega (arith, length-le c.self.inside.names, c.self.invariant.1, c.self.invariant.2, c.self.invariant.3)
-
-pub push-requires-clause-bytes : goal.push-requires-clause-bytes
-push-requires-clause-bytes c = omega (arith, joined-le c.self.inside.names, c.self.invariant.1, c.self.invariant.2, c.self.invariant.3, c.requires.longest)
+pub append-requires-clause-new : goal.append-requires-clause-new
+append-requires-clause-new c =
+    let name = c.args.name.now in
+    lookup-offset 1 c.self.inside.offsets.entries name c.self.invariant.1
+    ∙ ap (λ t. offset_from 1 t.names name) c.self.view_is ∙ offset_of-none c.args.self.now name (sym c.in_default.ensures)
 
 pub invariant_of-self : goal.invariant_of-self
 invariant_of-self c =
-    let names = c.self.inside.names in
+    let names = names_of c.self.inside.offsets.entries in
     let name = c.args.name.now in
-    rw c.in-Ok.ensures.ok (All-push IsName names name c.self.invariant.0 c.requires, omega (arith, bytes_of-push names name, c.self.invariant.1), c.if-needed-self.false, c.self.invariant.3)
+    rw c.in-Ok.ensures.names
+    (All-push IsName names name c.self.invariant.0 c.requires, c.append.ensures.places, omega (arith, bytes_of-push names name, c.self.invariant.2), c.if-needed-self.false, c.self.invariant.4)
