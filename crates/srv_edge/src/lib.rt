@@ -17,7 +17,7 @@ pub use crate::both::Both;
 pub use crate::failed::{Failed, Limits, Refusal, SessionEnd};
 pub use crate::link::Link;
 pub use crate::memory::{MemLink, MemSink, MemSource};
-pub use crate::piece::{PIECE_BYTES, Piece, Room};
+pub use crate::piece::{PIECE_BYTES, Piece, Room, Text};
 pub use crate::records::RecordList;
 pub use crate::sink::{Sink, give_all};
 pub use crate::source::Source;

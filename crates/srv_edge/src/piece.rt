@@ -97,6 +97,34 @@ impl Piece {
     }
 }
 
+/// Bytes that are kept as they came: a record, a name, the content of a stream.
+#[derive(Drop)]
+pub struct Text {
+    all: Vec<u8>,
+}
+
+impl Model for Text {
+    ghost use Rattle.std.specs.Prelude.{List, ℕ};
+
+    ghost Value = { List ℕ };
+
+    ghost view = { λ t. t.all.items };
+}
+
+impl Text {
+    pub fn new(bytes: Vec<u8>) -> Text
+        ensures { result ≡ bytes.items }
+    {
+        Text { all: bytes }
+    }
+
+    pub fn bytes(&self) -> &[u8]
+        ensures { result.now ≡ self.now }
+    {
+        &self.all
+    }
+}
+
 /// The two buffers of a session. What they hold before it does not matter.
 #[derive(Drop)]
 pub struct Room {
