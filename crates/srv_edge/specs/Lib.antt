@@ -3,3 +3,5 @@ pub mod Stream
 pub mod Frames
 pub mod Records
 pub mod Memory
+pub mod Disk
+pub mod Still

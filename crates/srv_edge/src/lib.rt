@@ -3,6 +3,7 @@
 #![tactic(auto)]
 
 mod both;
+mod device;
 mod failed;
 mod link;
 mod memory;
@@ -11,9 +12,11 @@ mod records;
 mod sink;
 mod source;
 mod standard;
+mod still;
 mod words;
 
 pub use crate::both::Both;
+pub use crate::device::Device;
 pub use crate::failed::{Failed, Limits, Refusal, SessionEnd};
 pub use crate::link::Link;
 pub use crate::memory::{MemLink, MemSink, MemSource};
@@ -22,4 +25,5 @@ pub use crate::records::RecordList;
 pub use crate::sink::{Sink, give_all};
 pub use crate::source::Source;
 pub use crate::standard::{StdIn, StdOut};
+pub use crate::still::StillDevice;
 pub use crate::words::{half, half_at, word, word_at};
