@@ -2,3 +2,5 @@ mod Cutting
 pub mod Filling
 pub mod Numbers
 pub mod Streams
+pub mod Moments
+pub mod Ranges

@@ -4,4 +4,5 @@ pub mod Frames
 pub mod Records
 pub mod Memory
 pub mod Disk
+pub mod Torn
 pub mod Still
