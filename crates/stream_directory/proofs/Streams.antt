@@ -282,7 +282,7 @@ block_without_fault s is_used b free inside once =
     ap (λ t. cond t (Some (ReservedBlock b)) (cond (leb s.blocks b) (Some (OutsideFile b)) (cond is_used (Some (BlockTwice b)) None))) free
     ∙ ap (λ t. cond t (Some (OutsideFile b)) (cond is_used (Some (BlockTwice b)) None)) (lt-leb s.blocks b inside) ∙ ap (λ t. cond t (Some (BlockTwice b)) None) once
 
-usable_from_none : (s : Super) (earlier blocks : List ℕ) → first_bad s earlier blocks ≡ None → AreUsable s earlier blocks
+pub usable_from_none : (s : Super) (earlier blocks : List ℕ) → first_bad s earlier blocks ≡ None → AreUsable s earlier blocks
 unfolding first_bad
 usable_from_none s earlier [] e = tt
 usable_from_none s earlier (b ∷ blocks) e =
@@ -291,7 +291,7 @@ usable_from_none s earlier (b ∷ blocks) e =
     let block = usable_block s is_used b parts.0 in
     (λ h. both_ways (is_reserved s.block b) block.0 h, block.1, block.2, usable_from_none s (earlier ++ b ∷ []) blocks parts.1)
 
-none_from_usable : (s : Super) (earlier blocks : List ℕ) → AreUsable s earlier blocks → first_bad s earlier blocks ≡ None
+pub none_from_usable : (s : Super) (earlier blocks : List ℕ) → AreUsable s earlier blocks → first_bad s earlier blocks ≡ None
 unfolding first_bad
 none_from_usable s earlier [] u = refl
 none_from_usable s earlier (b ∷ blocks) u =

@@ -10,6 +10,8 @@ mod writing;
 
 pub use crate::directory::{ABSENT_SIZE, Directory, Stream};
 pub use crate::fault::DirFault;
+pub use crate::judging::judge;
+pub use crate::layout::words_of;
 pub use crate::reading::{read_directory, read_directory_behind};
 pub use crate::writing::write_directory;
 

@@ -1,0 +1,98 @@
+-- The blocks that the block map lists, and faults that are told.
+use Rattle.std.proofs.Common.{◌≡◌, ◌≤◌, ◌<◌, ◌+◌, ◌*◌, ◌/◌, ◌%◌, ◌++◌, ◌⊎◌, inl, inr, ◌-◌, ℕ, zero, suc, List, [], ◌∷◌, length, take, All, Option, Some, None, Result, Ok, Err, refl, sym, ap, subst, ◌∙◌, IsErrAnd, arith}
+use Rattle.std.proofs.lemmas.List.{append-nil, length-take-le}
+use Rattle.std.proofs.lemmas.Nat.{mul-le}
+use Rattle.std.proofs.Math.Nat.{div-lt_iff_lt-mul, mul-div_left, mul_assoc, mul_comm, suc-mul}
+use Rattle.msf_blocks.specs.declared.superblock.Super.{Super}
+use Rattle.msf_blocks.specs.Blocks.{IsBlockSize, blocks_of_size}
+use Rattle.msf_blocks.specs.Superblock.{IsSuper}
+use Rattle.msf_blocks.proofs.Sizes.{sized}
+use Rattle.stream_directory.specs.declared.fault.DirFault.{DirFault}
+use Rattle.stream_directory.specs.declared.fault.DirFault.TheVariants as directory
+use Rattle.stream_directory.specs.Directory.{AreUsable}
+use Rattle.stream_directory.specs.Reading.{Fails, IsFound, first_bad, unless, words_in}
+use Rattle.stream_directory.proofs.Streams.{usable_from_none}
+use Rattle.msf_image.specs.declared.fault.OpenFault.{OpenFault}
+use Rattle.msf_image.specs.declared.fault.OpenFault.TheVariants.{Damage, DiskFault, OutOfMemory}
+use Rattle.msf_image.specs.Faults.{fault_of_directory}
+use Rattle.msf_image.specs.Reads.{Tells, block_bytes, bytes_of_blocks, directory_blocks, listed_blocks, of_file}
+use Rattle.msf_image.proofs.Superblocks.{told_err}
+
+-- a fault of the directory is told as one of the file
+pub told_fails : {X Y : Type 0} (view : X → Y) (r : Result X OpenFault) (read : Result Y DirFault) (f : DirFault) → IsErrAnd r (λ x. x ≡ fault_of_directory f) → Fails f read → Tells view r (of_file read)
+told_fails view r read (directory.Short at) same is = told_err view r (of_file read) _ same (ap of_file is)
+told_fails view r read (directory.Extra at) same is = told_err view r (of_file read) _ same (ap of_file is)
+told_fails view r read (directory.ReservedBlock b) same is = told_err view r (of_file read) _ same (ap of_file is)
+told_fails view r read (directory.OutsideFile b) same is = told_err view r (of_file read) _ same (ap of_file is)
+told_fails view r read (directory.BlockTwice b) same is = told_err view r (of_file read) _ same (ap of_file is)
+told_fails view (Ok x) read directory.OutOfMemory same is = absurd same
+told_fails view (Err (Damage kind place)) read directory.OutOfMemory same is = absurd cc
+told_fails view (Err DiskFault) read directory.OutOfMemory same is = tt
+told_fails view (Err OutOfMemory) read directory.OutOfMemory same is = tt
+
+fails_found : {A : Type 0} (f : DirFault) (found : Option DirFault) (x : A) → IsFound f found → Fails f (unless found x)
+fails_found (directory.Short at) found x is = ap (λ o. unless o x) is
+fails_found (directory.Extra at) found x is = ap (λ o. unless o x) is
+fails_found (directory.ReservedBlock b) found x is = ap (λ o. unless o x) is
+fails_found (directory.OutsideFile b) found x is = ap (λ o. unless o x) is
+fails_found (directory.BlockTwice b) found x is = ap (λ o. unless o x) is
+fails_found directory.OutOfMemory found x is = tt
+
+-- how many words bytes have
+length-words_in : (bytes : List ℕ) → (4 * length (words_in bytes) ≤ length bytes) × (length bytes < 4 * length (words_in bytes) + 4)
+unfolding words_in
+length-words_in [] = (omega arith, omega arith)
+length-words_in (a ∷ []) = (omega arith, omega arith)
+length-words_in (a ∷ b ∷ []) = (omega arith, omega arith)
+length-words_in (a ∷ b ∷ c ∷ []) = (omega arith, omega arith)
+length-words_in (a ∷ b ∷ c ∷ d ∷ bytes) = let rest = length-words_in bytes in (omega (arith, rest.0), omega (arith, rest.1))
+
+below_div : (size x n : ℕ) → 0 < size → x < (n + 1) * size → x / size < n + 1
+below_div size x n some below = (div-lt_iff_lt-mul some).1 below
+
+-- blocks of at most so many bytes as a quarter of a block's square
+fit : (size bytes n : ℕ) → 512 ≤ size → size % 8 ≡ 0 → bytes ≤ size * size / 4 → size < 4 * n + 4 → blocks_of_size size bytes ≤ n
+fit size bytes n least eighth few many =
+    let q = size / 4 in
+    let whole : size ≡ q * 4 = omega (arith, eighth) in
+    let square : size * size / 4 ≡ size * q = ap (λ k. k / 4) (ap (λ k. size * k) whole ∙ sym (mul_assoc size q 4)) ∙ mul-div_left (size * q) (omega arith) in
+    let most : size * q ≤ n * size = subst (λ k. size * q ≤ k) (mul_comm size n) (mul-le size q size n (omega arith) (omega (arith, whole, many))) in
+    let below : bytes + (size - 1) < (n + 1) * size = omega (arith, least, few, square, most, suc-mul n size) in
+    omega (arith, below_div size (bytes + (size - 1)) n (omega (arith, least)) below)
+
+-- the directory's blocks fit in one block of numbers
+pub listed_fit : (s : Super) (block_map : List ℕ) → IsSuper s → length block_map ≡ s.block → blocks_of_size s.block s.dir_bytes ≤ length (words_in block_map)
+listed_fit s block_map is whole =
+    let words = length-words_in block_map in
+    let size = sized s.block is.block in
+    fit s.block s.dir_bytes (length (words_in block_map)) size.least size.eighth is.most_dir_bytes (omega (arith, words.1, whole))
+
+-- usable blocks lie in the file
+usable_inside : (s : Super) (earlier blocks : List ℕ) → AreUsable s earlier blocks → All (λ b. b < s.blocks) blocks
+usable_inside s earlier [] is k d lt = absurd (omega (arith, lt))
+usable_inside s earlier (b ∷ blocks) is zero d lt = is.1
+usable_inside s earlier (b ∷ blocks) is (suc k) d lt = usable_inside s (earlier ++ b ∷ []) blocks is.3 k d (omega (arith, lt))
+
+pub listed_inside : (s : Super) (blocks : List ℕ) → first_bad s [] blocks ≡ None → All (λ b. b < s.blocks) blocks
+listed_inside s blocks none = usable_inside s [] blocks (usable_from_none s [] blocks none)
+
+-- what is listed is what the file lists
+listed_as : (s : Super) (file block_map listed : List ℕ) → block_map ≡ bytes_of_blocks s.block file (s.map_addr ∷ []) → listed ≡ s.map_addr ∷ take (blocks_of_size s.block s.dir_bytes) (words_in block_map)
+    → listed_blocks file s ≡ of_file (unless (first_bad s [] listed) listed)
+unfolding listed_blocks
+listed_as s file block_map listed read is =
+    let same : listed ≡ s.map_addr ∷ directory_blocks file s = is ∙ ap (λ bytes. s.map_addr ∷ take (blocks_of_size s.block s.dir_bytes) (words_in bytes)) (read ∙ append-nil (block_bytes s.block file s.map_addr)) in
+    ap (λ blocks. of_file (unless (first_bad s [] blocks) blocks)) (sym same)
+
+pub listed_ok : (s : Super) (file block_map listed : List ℕ) → block_map ≡ bytes_of_blocks s.block file (s.map_addr ∷ []) → listed ≡ s.map_addr ∷ take (blocks_of_size s.block s.dir_bytes) (words_in block_map)
+    → first_bad s [] listed ≡ None → listed_blocks file s ≡ Ok listed
+listed_ok s file block_map listed read is none = listed_as s file block_map listed read is ∙ ap (λ o. of_file (unless o listed)) none
+
+pub listed_err : {X : Type 0} (view : X → List ℕ) (r : Result X OpenFault) (s : Super) (file block_map listed : List ℕ) (f : DirFault) → block_map ≡ bytes_of_blocks s.block file (s.map_addr ∷ []) → listed ≡ s.map_addr ∷ take (blocks_of_size s.block s.dir_bytes) (words_in block_map)
+    → IsErrAnd r (λ x. x ≡ fault_of_directory f) → IsFound f (first_bad s [] listed) → Tells view r (listed_blocks file s)
+listed_err view r s file block_map listed f read is same found =
+    subst (Tells view r) (sym (listed_as s file block_map listed read is)) (told_fails view r (unless (first_bad s [] listed) listed) f same (fails_found f (first_bad s [] listed) listed found))
+
+pub listed_count : (s : Super) (block_map listed : List ℕ) → IsSuper s → length block_map ≡ s.block → listed ≡ s.map_addr ∷ take (blocks_of_size s.block s.dir_bytes) (words_in block_map) → length listed ≡ 1 + blocks_of_size s.block s.dir_bytes
+listed_count s block_map listed is whole same =
+    omega (arith, ap length same, length-take-le (blocks_of_size s.block s.dir_bytes) (words_in block_map) (listed_fit s block_map is whole))

@@ -1,0 +1,17 @@
+use Rattle.std.proofs.Common.{◌<◌, All, Ok, ap, subst, ◌∙◌}
+use Rattle.msf_image.proofs.Directories.{done}
+use Rattle.msf_image.proofs.Listed.{listed_err, listed_inside, listed_ok}
+use Rattle.msf_image.proofs.open.read_listed.Goals as goal
+
+pub returns-in_err-judge-clause-reads : goal.returns-in_err-judge-clause-reads
+returns-in_err-judge-clause-reads g c = λ tells.
+    listed_err _ _ c.args.head.now _ c.deref.result.now c.deref-2.result.now c.in_err-judge.field-0.0 (c.deref.ensures.value ∙ c.in_ok-block_map.ensures.bytes tells) (c.deref-2.ensures.value ∙ c.in_ok-listed.ensures.listed) c.from_residual-in_err-judge.ensures.1 c.in_err-judge.ensures
+
+pub returns-clause-used : goal.returns-clause-used
+returns-clause-used g c =
+    subst (All (λ b. b < c.args.head.now.blocks)) c.deref-2.ensures.value (listed_inside c.args.head.now c.deref-2.result.now c.in_ok-judge.ensures)
+
+pub returns-clause-reads : goal.returns-clause-reads
+returns-clause-reads g c = λ tells.
+    listed_ok c.args.head.now _ c.deref.result.now c.deref-2.result.now (c.deref.ensures.value ∙ c.in_ok-block_map.ensures.bytes tells) (c.deref-2.ensures.value ∙ c.in_ok-listed.ensures.listed) c.in_ok-judge.ensures
+    ∙ ap done c.deref-2.ensures.value

@@ -1,0 +1,128 @@
+ghost use Rattle.std.specs.Prelude.{◌≡◌};
+ghost use Rattle.msf_image.specs.Faults.{fault_of_directory, fault_of_read, fault_of_superblock};
+ghost use Rattle.msf_image.specs.declared.fault.OpenFault.TheVariants.{DiskFault, OutOfMemory};
+
+use crate::blocks::ReadFault;
+use msf_blocks::SuperFault;
+use srv_edge::Failed;
+use std::alloc::{AllocError, AllocFailed};
+use std::fmt;
+use stream_directory::DirFault;
+use thiserror::Error;
+
+/// What is wrong with a file. docs/FORMAT.md has the tests in their order.
+#[derive(Clone, Copy, Debug, PartialEq, Eq)]
+pub enum DamageKind {
+    Magic,
+    BlockSize,
+    FreeMap,
+    Blocks,
+    Directory,
+    MapAddr,
+    ReservedBlock,
+    OutsideFile,
+    BlockTwice,
+    DirectoryShort,
+    DirectoryExtra,
+    BlockFree,
+}
+
+impl fmt::Display for DamageKind {
+    fn fmt<W: fmt::Write>(&self, f: &mut fmt::Formatter<W>) -> fmt::Result {
+        f.write_str(match self {
+            DamageKind::Magic => "magic",
+            DamageKind::BlockSize => "block-size",
+            DamageKind::FreeMap => "free-map",
+            DamageKind::Blocks => "blocks",
+            DamageKind::Directory => "directory",
+            DamageKind::MapAddr => "map-addr",
+            DamageKind::ReservedBlock => "reserved-block",
+            DamageKind::OutsideFile => "outside-file",
+            DamageKind::BlockTwice => "block-twice",
+            DamageKind::DirectoryShort => "directory-short",
+            DamageKind::DirectoryExtra => "directory-extra",
+            DamageKind::BlockFree => "block-free",
+        })
+    }
+}
+
+/// Why a file was not opened, or not read.
+#[derive(Clone, Copy, Debug, PartialEq, Eq, Error)]
+pub enum OpenFault {
+    /// The first test that the file fails, and where: an offset in the superblock or the directory, or a
+    /// block's number.
+    #[error("damage {kind} {place}")]
+    Damage { kind: DamageKind, place: u64 },
+    /// The device failed.
+    #[error("disk fault")]
+    DiskFault,
+    #[error("out of memory")]
+    OutOfMemory,
+}
+
+impl From<Failed> for OpenFault {
+    ghost from_gives = { λ _ e. e ≡ DiskFault };
+
+    fn from(_e: Failed) -> OpenFault {
+        OpenFault::DiskFault
+    }
+}
+
+impl From<AllocError> for OpenFault {
+    ghost from_gives = { λ _ e. e ≡ OutOfMemory };
+
+    fn from(_e: AllocError) -> OpenFault {
+        OpenFault::OutOfMemory
+    }
+}
+
+impl<T: Drop> From<AllocFailed<T>> for OpenFault {
+    ghost from_gives = { λ _ e. e ≡ OutOfMemory };
+
+    fn from(_e: AllocFailed<T>) -> OpenFault {
+        OpenFault::OutOfMemory
+    }
+}
+
+impl From<ReadFault> for OpenFault {
+    ghost from_gives = { λ fault e. e ≡ fault_of_read fault };
+
+    fn from(fault: ReadFault) -> OpenFault {
+        match fault {
+            ReadFault::Failed => OpenFault::DiskFault,
+            ReadFault::OutOfMemory => OpenFault::OutOfMemory,
+        }
+    }
+}
+
+impl From<SuperFault> for OpenFault {
+    ghost from_gives = { λ fault e. e ≡ fault_of_superblock fault };
+
+    fn from(fault: SuperFault) -> OpenFault {
+        let (kind, place) = match fault {
+            SuperFault::Magic => (DamageKind::Magic, 0),
+            SuperFault::BlockSize => (DamageKind::BlockSize, 32),
+            SuperFault::FreeMap => (DamageKind::FreeMap, 36),
+            SuperFault::Blocks => (DamageKind::Blocks, 40),
+            SuperFault::Directory => (DamageKind::Directory, 44),
+            SuperFault::MapAddr => (DamageKind::MapAddr, 52),
+        };
+        OpenFault::Damage { kind, place }
+    }
+}
+
+impl From<DirFault> for OpenFault {
+    ghost from_gives = { λ fault e. e ≡ fault_of_directory fault };
+
+    fn from(fault: DirFault) -> OpenFault {
+        let (kind, place) = match fault {
+            DirFault::Short { at } => (DamageKind::DirectoryShort, at),
+            DirFault::Extra { at } => (DamageKind::DirectoryExtra, at),
+            DirFault::ReservedBlock { block } => (DamageKind::ReservedBlock, u64::from(block)),
+            DirFault::OutsideFile { block } => (DamageKind::OutsideFile, u64::from(block)),
+            DirFault::BlockTwice { block } => (DamageKind::BlockTwice, u64::from(block)),
+            DirFault::OutOfMemory => return OpenFault::OutOfMemory,
+        };
+        OpenFault::Damage { kind, place }
+    }
+}

@@ -1,0 +1,11 @@
+//! A file read as its container: superblock, directory and free blocks, or its first damage; and a new file made of streams.
+#![tactic(auto)]
+
+mod blocks;
+mod fault;
+mod image;
+mod open;
+
+pub use crate::fault::{DamageKind, OpenFault};
+pub use crate::image::Image;
+pub use crate::open::open_image;
