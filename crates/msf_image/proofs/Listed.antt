@@ -68,7 +68,7 @@ listed_fit s block_map is whole =
     fit s.block s.dir_bytes (length (words_in block_map)) size.least size.eighth is.most_dir_bytes (omega (arith, words.1, whole))
 
 -- usable blocks lie in the file
-usable_inside : (s : Super) (earlier blocks : List ℕ) → AreUsable s earlier blocks → All (λ b. b < s.blocks) blocks
+pub usable_inside : (s : Super) (earlier blocks : List ℕ) → AreUsable s earlier blocks → All (λ b. b < s.blocks) blocks
 usable_inside s earlier [] is k d lt = absurd (omega (arith, lt))
 usable_inside s earlier (b ∷ blocks) is zero d lt = is.1
 usable_inside s earlier (b ∷ blocks) is (suc k) d lt = usable_inside s (earlier ++ b ∷ []) blocks is.3 k d (omega (arith, lt))

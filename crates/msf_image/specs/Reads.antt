@@ -4,10 +4,10 @@ use Rattle.std.specs.List.{flat_map, range_with_len}
 use Rattle.msf_blocks.specs.declared.superblock.Super.{Super}
 use Rattle.msf_blocks.specs.declared.superblock.SuperFault.{SuperFault}
 use Rattle.msf_blocks.specs.Blocks.{blocks_of_size, block_offset, map_block, map_blocks}
-use Rattle.msf_blocks.specs.Superblock.{first_fault, numbers_of, superblock_tests}
+use Rattle.msf_blocks.specs.Superblock.{IsSuper, first_fault, numbers_of, superblock_tests}
 use Rattle.free_page_maps.specs.FreeBlocks.{FreeBlocks, free_in, is_free}
 use Rattle.stream_directory.specs.declared.fault.DirFault.{DirFault}
-use Rattle.stream_directory.specs.Directory.{StreamBlocks, blocks_in}
+use Rattle.stream_directory.specs.Directory.{IsDirectory, StreamBlocks, blocks_in}
 use Rattle.stream_directory.specs.Reading.{first_bad, reading, unless, words_in}
 use Rattle.msf_image.specs.declared.fault.DamageKind.TheVariants.{BlockFree}
 use Rattle.msf_image.specs.declared.fault.OpenFault.{OpenFault}
@@ -90,11 +90,13 @@ Tells view (Err (Damage kind place)) told = told ≡ Err (Damage kind place)
 Tells view (Err DiskFault) told = Unit {0}
 Tells view (Err OutOfMemory) told = Unit {0}
 
--- the image of a file
-pub record IsImageOf (file : List ℕ) (image : Image) : Type 0 where
-  pub limit : ℕ
-  pub reads : read_file file limit ≡ Ok image
+-- a superblock, and a directory whose streams have usable blocks
+pub record IsWhole (image : Image) : Type 0 where
+  pub head : IsSuper image.head
+  pub listed : List ℕ
+  pub directory : IsDirectory image.head listed image.directory
 
--- the content of a stream: its blocks joined, and cut to its size
-abbrev pub content_of : List ℕ → Super → StreamBlocks → List ℕ
-content_of file s stream = take stream.size (bytes_of_blocks s.block file stream.blocks)
+-- The content of a stream: its blocks joined, and cut to its size. An absent stream, and one that is not there, has none.
+abbrev pub content_of : List ℕ → Super → Option StreamBlocks → List ℕ
+content_of file s None = []
+content_of file s (Some stream) = take stream.size (bytes_of_blocks s.block file stream.blocks)

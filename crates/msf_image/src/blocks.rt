@@ -43,7 +43,7 @@ pub fn read_blocks<D: Device>(
     blocks: &[u32],
 ) -> Result<Vec<u8>, ReadFault>
     requires size { IsBlockSize block_size }
-    requires few { length blocks.now ≤ 2 ^ 20 }
+    requires few { length blocks.now ≤ 2 ^ 32 }
     requires inside { IsTrue D.tells → All (λ b. b * block_size + block_size ≤ length (D.seen device.old)) blocks.now }
     ensures len { IfOk result (λ bytes. length bytes.items ≡ length blocks.now * block_size) }
     ensures bytes { IsTrue D.tells → IfOk result (λ bytes. bytes.items ≡ bytes_of_blocks block_size (D.seen device.old) blocks.now) }

@@ -1,5 +1,16 @@
+ghost use Rattle.std.specs.Prelude.{◌≡◌, ◌≤◌, ◌*◌, ℕ, IsTrue, length, IfOk, IsErrOf};
+ghost use Rattle.srv_edge.specs.Count.{Rose};
+ghost use Rattle.srv_edge.specs.Disk.{LeavesOnly};
+ghost use Rattle.stream_directory.specs.Directory.{stream_at};
+ghost use Rattle.msf_image.specs.declared.fault.DamageKind.{DamageKind};
+ghost use Rattle.msf_image.specs.Reads.{IsWhole, content_of};
+
+use crate::blocks::read_blocks;
+use crate::fault::OpenFault;
 use free_page_maps::FreeMap;
 use msf_blocks::Super;
+use srv_edge::Device;
+use std::alloc::Global;
 use stream_directory::Directory;
 
 /// A file that was read as its container.
@@ -8,4 +19,33 @@ pub struct Image {
     pub head: Super,
     pub directory: Directory,
     pub free: FreeMap,
+}
+
+impl Image {
+    /// The content of a stream, by its number. An absent stream, one that is not there, and stream 0, of which no blocks
+    /// are kept, give no bytes. It takes memory for the stream's blocks alone.
+    pub fn read_stream<D: Device>(
+        &self,
+        alloc: Global,
+        device: &mut D,
+        stream: u32,
+    ) -> Result<Vec<u8>, OpenFault>
+        requires whole { IsWhole self.now }
+        requires inside { IsTrue D.tells → self.now.head.blocks * self.now.head.block ≤ length (D.seen device.old) }
+        ensures content { IsTrue D.tells → IfOk result (λ bytes. bytes.items ≡ content_of (D.seen device.old) self.now.head (stream_at self.now.directory stream)) }
+        ensures no_damage { (kind : DamageKind) (place : ℕ) → ¬ IsErrOf result (OpenFault.Damage kind place) }
+        ensures disk_fault { IsErrOf result OpenFault.DiskFault → Rose (D.fault_count device.old) (D.fault_count device.new) }
+        ensures seen { D.seen device.new ≡ D.seen device.old }
+        // A crash at any moment leaves what it might have left at the start.
+        ensures any_moment { LeavesOnly D.moment D.left_since device.old device.new (D.may_leave device.old) }
+        ensures loans { D.loans device.new ≡ D.loans device.old }
+        ensures never_falls { D.fault_count device.old ≤ D.fault_count device.new }
+    {
+        let Some(Some(kept)) = self.directory.streams().get(stream as usize) else {
+            return Ok(Vec::new(alloc));
+        };
+        let mut bytes = read_blocks(alloc, device, self.head.block, kept.blocks())?;
+        bytes.truncate(kept.size() as usize);
+        Ok(bytes)
+    }
 }

@@ -9,7 +9,7 @@ ghost use Rattle.msf_blocks.specs.Superblock.{IsSuper};
 ghost use Rattle.free_page_maps.specs.FreeBlocks.{is_free};
 ghost use Rattle.stream_directory.specs.Directory.{IsDirectory, blocks_in};
 ghost use Rattle.stream_directory.specs.Reading.{words_in};
-ghost use Rattle.msf_image.specs.Reads.{Tells, active_map_blocks, free_blocks_in, listed_blocks, read_file, streams_in, superblock_in, used_blocks, with_free};
+ghost use Rattle.msf_image.specs.Reads.{IsWhole, Tells, active_map_blocks, free_blocks_in, listed_blocks, read_file, streams_in, superblock_in, used_blocks, with_free};
 
 use crate::blocks::{ReadFault, read_blocks};
 use crate::fault::{DamageKind, OpenFault};
@@ -30,6 +30,8 @@ pub fn open_image<D: Device>(
     requires limit { limit ≤ 2 ^ 20 }
     // What is read is what the file reads as, and the damage is its first.
     ensures reads { IsTrue D.tells → Tells (λ image. image) result (read_file (D.seen device.old) limit) }
+    ensures whole { IfOk result IsWhole }
+    ensures inside { IsTrue D.tells → IfOk result (λ image. image.head.blocks * image.head.block ≤ length (D.seen device.old)) }
     ensures disk_fault { IsErrOf result OpenFault.DiskFault → Rose (D.fault_count device.old) (D.fault_count device.new) }
     ensures seen { D.seen device.new ≡ D.seen device.old }
     // A crash at any moment leaves what it might have left at the start.
@@ -184,6 +186,7 @@ fn active_map_blocks(alloc: Global, head: &Super) -> Result<Vec<u32>, AllocError
 #[tactic(auto, unfolding(crate::specs::Reads::with_free))]
 fn judge_used(image: Image, listed: &[u32]) -> Result<Image, OpenFault>
     ensures told { Tells (λ image. image) result (with_free (used_blocks listed.now image.directory) image) }
+    ensures same { IfOk result (λ judged. judged ≡ image) }
     ensures no_fault { ¬ IsErrOf result OpenFault.DiskFault }
 {
     match first_used_free(&image.free, listed, image.directory.streams()) {

@@ -1,0 +1,17 @@
+use Rattle.std.proofs.Common.{◌<◌, ◌≡◌, All, ap, sym, subst, ◌∙◌, length, get_or, arith}
+use Rattle.std.proofs.lemmas.Bool.{ltb-true}
+use Rattle.stream_directory.specs.Directory.{blocks_in}
+use Rattle.msf_image.proofs.Joining.{block_inside, inside_piece}
+use Rattle.msf_image.proofs.Listed.{usable_inside}
+use Rattle.msf_image.proofs.image.Image.read_stream.Goals as goal
+
+pub read_blocks-requires-clause-inside : goal.read_blocks-requires-clause-inside
+read_blocks-requires-clause-inside g c = λ tells k d lt.
+    let s = c.args.self.now.head in
+    let x = c.in-Some-Some.field-0.now in
+    let lookup = c.in-Some-Some.ensures.lookup in
+    let all = usable_inside s c.requires.whole.listed _ c.requires.whole.directory.usable in
+    let inside : c.args.stream < length c.args.self.now.directory = omega (arith, ltb-true c.args.stream (length c.streams.result.now) (sym lookup.0), ap length c.streams.ensures) in
+    let kept = inside_piece blocks_in c.args.self.now.directory c.args.stream x (λ b. b < s.blocks) inside (lookup.1 ∙ ap (λ xs. get_or xs c.args.stream x) c.streams.ensures) all in
+    let blocks = subst (All (λ b. b < s.blocks)) (ap blocks_in c.in-Some-Some.field-0-is ∙ sym c.blocks-2.ensures) kept in
+    block_inside _ s.blocks s.block _ (blocks k d lt) (c.requires.inside tells)
