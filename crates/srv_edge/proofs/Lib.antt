@@ -4,3 +4,5 @@ pub mod Numbers
 pub mod Streams
 pub mod Moments
 pub mod Ranges
+mod Padded
+mod Replaying

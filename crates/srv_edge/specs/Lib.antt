@@ -6,3 +6,7 @@ pub mod Memory
 pub mod Disk
 pub mod Torn
 pub mod Still
+pub mod Replay
+pub mod Past
+pub mod Contents
+pub mod Recorded

@@ -1,0 +1,123 @@
+-- A record of calls on a file, and what a crash may make of the file after them.
+use Rattle.std.specs.Prelude.{◌≡◌, ◌≤◌, ◌+◌, ◌++◌, ◌⊎◌, ℕ, Bool, true, false, not, if◌then◌else◌, List, [], ◌∷◌, length, min, take, replicate, ◌==◌, Result, MatchResult}
+use Rattle.std.specs.List.{list_any}
+use Rattle.srv_edge.specs.Count.{last_count}
+use Rattle.srv_edge.specs.Disk.{spliced, headed, Torn, Whole}
+use Rattle.srv_edge.specs.declared.memory_record.Call.{Call}
+use Rattle.srv_edge.specs.declared.memory_record.CallKind.{CallKind}
+use Rattle.srv_edge.specs.declared.memory_record.CallKind.TheVariants.{Size, Read, Write, Super, Sync}
+
+-- a step that is not settled: a write of so many bytes at a place, or a head
+pub data Step : Type 0 where
+  torn : ℕ → ℕ → Step
+  whole : List ℕ → Step
+
+-- the file at the last good sync, the steps since, the last of them first, and what a read gives
+pub record State : Type 0 where
+  pub settled : List ℕ
+  pub steps : List Step
+  pub seen : List ℕ
+
+-- what a crash may make of a settled file after these steps
+abbrev pub IsImage : List ℕ → List Step → List ℕ → Type 0
+IsImage settled [] c = c ≡ settled
+IsImage settled (torn at n ∷ older) c = (d : List ℕ) × IsImage settled older d × Torn at n d c
+IsImage settled (whole head ∷ older) c = (d : List ℕ) × IsImage settled older d × Whole head d c
+
+abbrev pub IsImageOf : State → List ℕ → Type 0
+IsImageOf s c = IsImage s.settled s.steps c
+
+-- the state after a call, which was done or failed
+abbrev pub after_kind : State → CallKind → List ℕ → Bool → State
+after_kind s Size bytes done = s
+after_kind s (Read at) bytes done = s
+after_kind s (Write at) bytes done =
+    record { settled = s.settled; steps = torn at (length bytes) ∷ s.steps; seen = if done then spliced s.seen at bytes else s.seen }
+after_kind s Super bytes done =
+    record { settled = s.settled; steps = whole bytes ∷ s.steps; seen = if done then headed s.seen bytes else s.seen }
+after_kind s Sync bytes done = if done then record { settled = s.seen; steps = []; seen = s.seen } else s
+
+abbrev pub after_call : State → Call → State
+after_call s c = after_kind s c.kind c.bytes.items c.done
+
+abbrev pub after_calls : State → List Call → State
+after_calls s [] = s
+after_calls s (c ∷ calls) = after_calls (after_call s c) calls
+
+abbrev pub first_state : List ℕ → State
+first_state file = record { settled = file; steps = []; seen = file }
+
+-- the state of a file after these calls
+abbrev pub state_of : List ℕ → List Call → State
+state_of file calls = after_calls (first_state file) calls
+
+-- what a crash at some moment since t might have left, where a moment is the number of calls
+abbrev pub LeftSince : List ℕ → List Call → ℕ → List ℕ → Type 0
+LeftSince file calls t c = (k : ℕ) × (t ≤ k) × (k ≤ length calls) × IsImageOf (state_of file (take k calls)) c
+
+-- the image where each range that is not settled holds the fill, and the heads that are not are all there or none
+abbrev pub image_from : List ℕ → List Step → ℕ → Bool → List ℕ
+image_from settled [] fill heads = settled
+image_from settled (torn at n ∷ older) fill heads = spliced (image_from settled older fill heads) at (replicate n fill)
+image_from settled (whole head ∷ older) fill heads =
+    if heads then headed (image_from settled older fill heads) head else image_from settled older fill heads
+
+abbrev pub image_of : State → ℕ → Bool → List ℕ
+image_of s fill heads = image_from s.settled s.steps fill heads
+
+-- the calls with one more, which was this
+pub record Adds (calls : List Call) (kind : CallKind) (bytes : List ℕ) (done : Bool) (calls' : List Call) : Type 0 where
+  pub call : Call
+  pub added : calls' ≡ calls ++ call ∷ []
+  pub of_kind : call.kind ≡ kind
+  pub of_bytes : call.bytes.items ≡ bytes
+  pub as_done : call.done ≡ done
+
+-- whether the call with this number, counted from 0, is told to fail
+abbrev pub is_told : List ℕ → ℕ → Bool
+is_told fail n = list_any (λ y. y == n) fail
+
+-- A call is kept, done or failed as this says, or it failed and is not kept.
+abbrev pub KeepsAs : {A E : Type 0} → Bool → List Call → CallKind → List ℕ → Result A E → List Call → Type 0
+KeepsAs done calls kind bytes result calls' =
+    MatchResult result (λ _. Adds calls kind bytes true calls' × (done ≡ true)) (λ _. (Adds calls kind bytes false calls' × (done ≡ false)) ⊎ (calls' ≡ calls))
+
+-- A call that is done is kept so, and was not told to fail. One that fails is kept so where it was told to, or not kept.
+abbrev pub Keeps : {A E : Type 0} → List ℕ → List Call → CallKind → List ℕ → Result A E → List Call → Type 0
+Keeps fail calls kind bytes result calls' = KeepsAs (not (is_told fail (length calls))) calls kind bytes result calls'
+
+-- a count that rose by one at a call that failed, and at no other
+abbrev pub Counts : {A E : Type 0} → ℕ → Result A E → ℕ → Type 0
+Counts before result now = MatchResult result (λ _. now ≡ before) (λ _. now ≡ min (before + 1) last_count)
+
+-- a call that is no write
+abbrev pub IsStill : CallKind → Type 0
+IsStill Size = Unit {0}
+IsStill (Read at) = Unit {0}
+IsStill (Write at) = ⊥
+IsStill Super = ⊥
+IsStill Sync = Unit {0}
+
+-- a write at this place, or a head, whose place is the start
+abbrev pub IsChangeAt : ℕ → CallKind → Type 0
+IsChangeAt place Size = ⊥
+IsChangeAt place (Read at) = ⊥
+IsChangeAt place (Write at) = at ≡ place
+IsChangeAt place Super = place ≡ 0
+IsChangeAt place Sync = ⊥
+
+-- a write, of a range or of the head
+abbrev pub IsChange : CallKind → Type 0
+IsChange Size = ⊥
+IsChange (Read at) = ⊥
+IsChange (Write at) = Unit {0}
+IsChange Super = Unit {0}
+IsChange Sync = ⊥
+
+-- the step that a write may leave to a crash
+abbrev pub step_of : CallKind → List ℕ → List ℕ → List ℕ → Type 0
+step_of Size bytes old new = new ≡ old
+step_of (Read at) bytes old new = new ≡ old
+step_of (Write at) bytes old new = Torn at (length bytes) old new
+step_of Super bytes old new = Whole bytes old new
+step_of Sync bytes old new = new ≡ old

@@ -1,0 +1,105 @@
+ghost use Rattle.std.specs.Prelude.{◌≡◌, ◌≤◌, ◌+◌, ◌-◌, ◌^◌, ◌++◌, length, take, drop, replicate, vec_len, IfOk, OnOk, OnErr};
+ghost use Rattle.srv_edge.specs.Disk.{spliced};
+
+use std::alloc::{AllocError, Global};
+
+/// What a call on a device was.
+#[derive(Clone, Copy, Debug, PartialEq, Eq)]
+pub enum CallKind {
+    Size,
+    Read { at: u64 },
+    Write { at: u64 },
+    Super,
+    Sync,
+}
+
+/// A call as it is kept: what it was, the bytes that it was to write, and whether it was done.
+#[derive(Drop)]
+pub struct Call {
+    pub kind: CallKind,
+    pub bytes: Vec<u8>,
+    pub done: bool,
+}
+
+impl Call {
+    pub fn new(alloc: Global, kind: CallKind, bytes: &[u8], done: bool) -> Result<Call, AllocError>
+        ensures kind { IfOk result (λ c. c.kind ≡ kind) }
+        ensures bytes { IfOk result (λ c. c.bytes.items ≡ bytes.now) }
+        ensures done { IfOk result (λ c. c.done ≡ done) }
+    {
+        Ok(Call {
+            kind,
+            bytes: bytes.to_vec(alloc)?,
+            done,
+        })
+    }
+}
+
+/// A file as it was at first and as it is. It is copied at the first write, so that making one takes
+/// no memory.
+#[derive(Drop)]
+pub struct Contents {
+    pub first: Vec<u8>,
+    pub later: Option<Vec<u8>>,
+}
+
+impl Contents {
+    ghost use Rattle.srv_edge.specs.Contents.{shown};
+
+    /// What a read gives.
+    pub fn bytes(&self) -> &[u8]
+        ensures { result.now ≡ shown self.now }
+    {
+        match &self.later {
+            Some(later) => later,
+            None => &self.first,
+        }
+    }
+
+    /// Writes over what is there, and past the end. Where there is no memory nothing is written.
+    pub fn write(&mut self, alloc: Global, at: usize, bytes: &[u8]) -> Result<(), AllocError>
+        requires { at + length bytes.now ≤ 2 ^ 35 }
+        ensures first { self.new.first ≡ self.old.first }
+        ensures ok { OnOk result (shown self.new ≡ spliced (shown self.old) at bytes.now) }
+        ensures err { OnErr result (shown self.new ≡ shown self.old) }
+    {
+        let mut later = match self.later.take() {
+            Some(later) => later,
+            None => self.first.to_vec(alloc)?,
+        };
+        let done = overwrite(&mut later, at, bytes);
+        self.later = Some(later);
+        done
+    }
+}
+
+// Writes over what is there, and past the end, with zeros between. Where there is no memory nothing is written.
+#[tactic(auto, using(crate::proofs::Padded::written))]
+pub fn overwrite(file: &mut Vec<u8>, at: usize, bytes: &[u8]) -> Result<(), AllocError>
+    requires { at + length bytes.now ≤ 2 ^ 35 }
+    ensures ok { OnOk result (file.new.items ≡ spliced file.old.items at bytes.now) }
+    ensures err { OnErr result (file.new.items ≡ file.old.items) }
+{
+    lengthen(file, at + bytes.len())?;
+    put_within(file, at, bytes);
+    Ok(())
+}
+
+// Makes the file so long at least, with zeros.
+fn lengthen(file: &mut Vec<u8>, end: usize) -> Result<(), AllocError>
+    ensures ok { OnOk result (file.new.items ≡ file.old.items ++ replicate (end - length file.old.items) 0) }
+    ensures err { OnErr result (file.new.items ≡ file.old.items) }
+{
+    if file.len() < end {
+        file.resize(end, 0)?;
+    }
+    Ok(())
+}
+
+// Writes over what is there.
+fn put_within(file: &mut Vec<u8>, at: usize, bytes: &[u8])
+    requires { at + length bytes.now ≤ vec_len file.old }
+    ensures { file.new.items ≡ take at file.old.items ++ bytes.now ++ drop (at + length bytes.now) file.old.items }
+{
+    file[at..at + bytes.len()].copy_from_slice(bytes);
+}
