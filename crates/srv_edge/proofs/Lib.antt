@@ -6,3 +6,4 @@ pub mod Moments
 pub mod Ranges
 mod Padded
 mod Replaying
+pub mod Settled

@@ -1,6 +1,6 @@
 -- A file that is first made long enough for a write, with zeros, and then written.
 use Rattle.std.proofs.Common.{◌≡◌, ◌≤◌, ◌+◌, ◌-◌, ◌++◌, ℕ, zero, suc, List, [], ◌∷◌, length, take, drop, replicate, sym, ◌∙◌, ap, ap₂, arith}
-use Rattle.std.proofs.lemmas.List.{append-nil, take-replicate, drop-replicate}
+use Rattle.std.proofs.lemmas.List.{append-nil, length-replicate, take-replicate, drop-replicate}
 use Rattle.srv_edge.specs.Disk.{spliced, headed}
 
 take-padded : (at n : ℕ) (file : List ℕ) → at ≤ length file + n → take at (file ++ replicate n 0) ≡ take at file ++ replicate (at - length file) 0
@@ -43,3 +43,10 @@ headed-spliced file head =
 pub written : (file longer final : List ℕ) (at : ℕ) (bytes : List ℕ) → longer ≡ file ++ replicate (at + length bytes - length file) 0 → final ≡ take at longer ++ bytes ++ drop (at + length bytes) longer → final ≡ spliced file at bytes
 written file longer final at bytes is was =
     was ∙ ap (λ xs. take at xs ++ bytes ++ drop (at + length bytes) xs) is ∙ spliced-padded file at bytes
+
+-- and for one that was filled with one byte
+pub filled : (file longer final : List ℕ) (at n fill : ℕ) → longer ≡ file ++ replicate (at + n - length file) 0 → final ≡ take at longer ++ replicate n fill ++ drop (at + n) longer → final ≡ spliced file at (replicate n fill)
+filled file longer final at n fill is was =
+    let many = sym (length-replicate {A = ℕ} n fill) in
+    written file longer final at (replicate n fill) (is ∙ ap (λ m. file ++ replicate (at + m - length file) 0) many)
+    (was ∙ ap (λ m. take at longer ++ replicate n fill ++ drop (at + m) longer) many)

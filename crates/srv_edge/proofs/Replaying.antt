@@ -1,10 +1,11 @@
 -- What a call that is kept makes of a file in memory.
-use Rattle.std.proofs.Common.{◌≡◌, ◌++◌, inl, inr, ℕ, Bool, true, false, List, [], ◌∷◌, length, Result, Ok, Err, IsOk, OnOk, is_ok, is_err, if◌then◌else◌, refl, sym, ◌∙◌, ap, subst}
+use Rattle.std.proofs.Common.{◌≡◌, ◌++◌, inl, inr, ℕ, Bool, true, false, List, [], ◌∷◌, length, Result, Ok, Err, IsOk, IfOk, OnOk, is_ok, is_err, if◌then◌else◌, refl, sym, ◌∙◌, ap, subst}
 use Rattle.std.proofs.lemmas.Bool.{false≢true}
 use Rattle.srv_edge.specs.Contents.{shown}
 use Rattle.srv_edge.specs.Disk.{spliced, Follows, Among, Only, Elapses}
 use Rattle.srv_edge.specs.Torn.{torn-same}
-use Rattle.srv_edge.specs.Replay.{State, IsImageOf, after_kind, state_of, LeftSince, Adds, KeepsAs, IsStill, IsChange, IsChangeAt, step_of}
+use Rattle.srv_edge.specs.Kinds.{place_of, IsStill, IsChange, step_of}
+use Rattle.srv_edge.specs.Replay.{State, IsImageOf, after_kind, state_of, LeftSince, Adds, KeepsAs}
 use Rattle.srv_edge.specs.Past.{elapses_by, elapses_same, state_added, still_among}
 use Rattle.srv_edge.specs.declared.memory_record.Call.{Call}
 use Rattle.srv_edge.specs.declared.memory_record.CallKind.{CallKind}
@@ -22,6 +23,11 @@ pub if_ok : {A E X : Type 0} (r : Result A E) (x y z : X) → IsOk r → z ≡ (
 if_ok (Ok a) x y z ok is = is
 if_ok (Err e) x y z ok is = cc
 
+-- a weaker fact of what came at Ok
+pub if_ok_then : {A E : Type 0} (r : Result A E) (P Q : A → Type 0) → ((a : A) → P a → Q a) → IfOk r P → IfOk r Q
+if_ok_then (Ok a) P Q less holds = less a holds
+if_ok_then (Err e) P Q less holds = tt
+
 -- what holds at Ok, once that is known
 pub on_ok : {A E : Type 0} (r : Result A E) (P : Type 0) → false ≡ is_err r → OnOk r P → P
 on_ok (Ok a) P is holds = holds
@@ -36,19 +42,12 @@ refused_seen s Super bytes change = refl
 refused_seen s Sync bytes change = refl
 
 -- a write that was done
-changed_seen : (s : State) (kind : CallKind) (at : ℕ) (bytes : List ℕ) → IsChangeAt at kind → (after_kind s kind bytes true).seen ≡ spliced s.seen at bytes
-changed_seen s Size at bytes change = absurd change
-changed_seen s (Read place) at bytes change = absurd change
-changed_seen s (Write place) at bytes change = ap (λ p. spliced s.seen p bytes) change
-changed_seen s Super at bytes change = sym (ap (λ p. spliced s.seen p bytes) change ∙ headed-spliced s.seen bytes)
-changed_seen s Sync at bytes change = absurd change
-
-pub is_change : (at : ℕ) (kind : CallKind) → IsChangeAt at kind → IsChange kind
-is_change at Size change = change
-is_change at (Read place) change = change
-is_change at (Write place) change = tt
-is_change at Super change = tt
-is_change at Sync change = change
+changed_seen : (s : State) (kind : CallKind) (bytes : List ℕ) → IsChange kind → (after_kind s kind bytes true).seen ≡ spliced s.seen (place_of kind) bytes
+changed_seen s Size bytes change = absurd change
+changed_seen s (Read at) bytes change = absurd change
+changed_seen s (Write at) bytes change = refl
+changed_seen s Super bytes change = sym (headed-spliced s.seen bytes)
+changed_seen s Sync bytes change = absurd change
 
 -- what a read gives, as the record has it, after a call that leaves it
 pub shows_same : (file file' : Contents) (before after : List Call) (kind : CallKind) (bytes : List ℕ) (done : Bool) → file' ≡ file → Adds before kind bytes done after → ((s : State) → (after_kind s kind bytes done).seen ≡ s.seen) → shown file ≡ (state_of file.first.items before).seen → shown file' ≡ (state_of file'.first.items after).seen
@@ -58,11 +57,11 @@ shows_same file file' before after kind bytes done is adds same was =
     subst P (sym is) (was ∙ sym now)
 
 -- and after a write that is done
-pub shows_changed : (file file' : Contents) (before after : List Call) (kind : CallKind) (at : ℕ) (bytes : List ℕ) → file'.first.items ≡ file.first.items → shown file' ≡ spliced (shown file) at bytes → Adds before kind bytes true after → IsChangeAt at kind → shown file ≡ (state_of file.first.items before).seen → shown file' ≡ (state_of file'.first.items after).seen
-shows_changed file file' before after kind at bytes first done adds change was =
+pub shows_changed : (file file' : Contents) (before after : List Call) (kind : CallKind) (bytes : List ℕ) → file'.first.items ≡ file.first.items → shown file' ≡ spliced (shown file) (place_of kind) bytes → Adds before kind bytes true after → IsChange kind → shown file ≡ (state_of file.first.items before).seen → shown file' ≡ (state_of file'.first.items after).seen
+shows_changed file file' before after kind bytes first done adds change was =
     let s = state_of file.first.items before in
-    let now = ap (λ (t : State). t.seen) (state_added file.first.items before kind bytes true after adds) ∙ changed_seen s kind at bytes change in
-    done ∙ ap (λ xs. spliced xs at bytes) was ∙ sym now ∙ ap (λ xs. (state_of xs after).seen) (sym first)
+    let now = ap (λ (t : State). t.seen) (state_added file.first.items before kind bytes true after adds) ∙ changed_seen s kind bytes change in
+    done ∙ ap (λ xs. spliced xs (place_of kind) bytes) was ∙ sym now ∙ ap (λ xs. (state_of xs after).seen) (sym first)
 
 -- time goes on by a call that is kept, or stands still
 time_of : {A E : Type 0} (done : Bool) (first : List ℕ) (calls calls' : List Call) (kind : CallKind) (bytes : List ℕ) (result : Result A E) → KeepsAs done calls kind bytes result calls' → Elapses (length calls) (length calls') (LeftSince first calls) (LeftSince first calls') (IsImageOf (state_of first calls'))

@@ -6,7 +6,9 @@ pub mod Memory
 pub mod Disk
 pub mod Torn
 pub mod Still
+pub mod Kinds
 pub mod Replay
 pub mod Past
 pub mod Contents
 pub mod Recorded
+pub mod Images

@@ -1,10 +1,11 @@
 -- What the record of calls on a file says of its images: the proofs of a device's laws.
-use Rattle.std.proofs.Common.{◌≡◌, ◌≤◌, ◌+◌, ◌++◌, ◌⊎◌, inl, inr, ℕ, Bool, true, false, List, [], ◌∷◌, length, refl, sym, ◌∙◌, ap, ap₂, subst, arith}
-use Rattle.std.proofs.lemmas.List.{length_push, take-append-le, take_all}
+use Rattle.std.proofs.Common.{◌≡◌, ◌≤◌, ◌<◌, ◌+◌, ◌++◌, ◌⊎◌, inl, inr, ℕ, Bool, true, false, List, [], ◌∷◌, length, get_or, take, replicate, refl, sym, ◌∙◌, ap, ap₂, subst, arith}
+use Rattle.std.proofs.lemmas.List.{length-replicate, length_push, take_more, take-append-le, take_all}
 use Rattle.std.proofs.lemmas.Bool.{cases_lt}
-use Rattle.srv_edge.specs.Disk.{Among, Elapses}
+use Rattle.srv_edge.specs.Disk.{spliced, Torn, Among, Elapses}
 use Rattle.srv_edge.specs.Torn.{torn-spliced, torn-same}
-use Rattle.srv_edge.specs.Replay.{State, IsImageOf, after_kind, after_call, after_calls, first_state, state_of, LeftSince, Adds, IsStill}
+use Rattle.srv_edge.specs.Replay.{Step, torn, whole, State, IsImage, IsImageOf, after_kind, after_call, after_calls, first_state, state_of, LeftSince, Adds, image_from, image_of}
+use Rattle.srv_edge.specs.Kinds.{IsStill}
 use Rattle.srv_edge.specs.declared.memory_record.Call.{Call}
 use Rattle.srv_edge.specs.declared.memory_record.CallKind.{CallKind}
 use Rattle.srv_edge.specs.declared.memory_record.CallKind.TheVariants.{Size, Read, Write, Super, Sync}
@@ -76,6 +77,10 @@ after_calls-push : (calls : List Call) (s : State) (call : Call) → after_calls
 after_calls-push [] s call = refl
 after_calls-push (c ∷ calls) s call = after_calls-push calls (after_call s c) call
 
+-- the state one call further on in the record
+pub state_more : (file : List ℕ) (calls : List Call) (i : ℕ) (d : Call) → i < length calls → state_of file (take (i + 1) calls) ≡ after_call (state_of file (take i calls)) (get_or calls i d)
+state_more file calls i d lt = ap (state_of file) (take_more calls i d lt) ∙ after_calls-push (take i calls) (first_state file) (get_or calls i d)
+
 -- the state once a call is kept
 pub state_added : (file : List ℕ) (calls : List Call) (kind : CallKind) (bytes : List ℕ) (done : Bool) (calls' : List Call) → Adds calls kind bytes done calls' → state_of file calls' ≡ after_kind (state_of file calls) kind bytes done
 state_added file calls kind bytes done calls' adds =
@@ -108,3 +113,20 @@ still_among file calls kind bytes done calls' still adds c image =
     let s = state_of file calls in
     let P : State → Type 0 = λ t. IsImageOf t c in
     still_image s kind bytes done c still (seen_stays calls (first_state file) refl) (subst P (state_added file calls kind bytes done calls' adds) image)
+
+-- the image with this fill and these heads is one
+image_is : (settled : List ℕ) (steps : List Step) (fill : ℕ) (heads : Bool) → IsImage settled steps (image_from settled steps fill heads)
+image_is settled [] fill heads = refl
+image_is settled (torn at n ∷ older) fill heads =
+    let was = image_from settled older fill heads in
+    let P : ℕ → Type 0 = λ m. Torn at m was (spliced was at (replicate n fill)) in
+    (was, image_is settled older fill heads, subst P (length-replicate {A = ℕ} n fill) (torn-spliced was at (replicate n fill)))
+image_is settled (whole head ∷ older) fill true = (image_from settled older fill true, image_is settled older fill true, inr refl)
+image_is settled (whole head ∷ older) fill false = (image_from settled older fill false, image_is settled older fill false, inl refl)
+
+pub image_of_is : (s : State) (fill : ℕ) (heads : Bool) (c : List ℕ) → c ≡ image_of s fill heads → IsImageOf s c
+image_of_is s fill heads c is = let P : List ℕ → Type 0 = λ file. IsImageOf s file in subst P (sym is) (image_is s.settled s.steps fill heads)
+
+-- so a crash at that moment might have left it
+pub left_then : (file : List ℕ) (calls : List Call) (k : ℕ) (c : List ℕ) → k ≤ length calls → IsImageOf (state_of file (take k calls)) c → LeftSince file calls k c
+left_then file calls k c le image = (k, omega arith, le, image)

@@ -1,5 +1,5 @@
 -- A record of calls on a file, and what a crash may make of the file after them.
-use Rattle.std.specs.Prelude.{◌≡◌, ◌≤◌, ◌+◌, ◌++◌, ◌⊎◌, ℕ, Bool, true, false, not, if◌then◌else◌, List, [], ◌∷◌, length, min, take, replicate, ◌==◌, Result, MatchResult}
+use Rattle.std.specs.Prelude.{◌≡◌, ◌≤◌, ◌<◌, ◌+◌, ◌++◌, ◌⊎◌, ℕ, slice_index, Bool, true, false, not, if◌then◌else◌, List, [], ◌∷◌, length, min, take, replicate, ◌==◌, Result, MatchResult}
 use Rattle.std.specs.List.{list_any}
 use Rattle.srv_edge.specs.Count.{last_count}
 use Rattle.srv_edge.specs.Disk.{spliced, headed, Torn, Whole}
@@ -90,34 +90,13 @@ Keeps fail calls kind bytes result calls' = KeepsAs (not (is_told fail (length c
 abbrev pub Counts : {A E : Type 0} → ℕ → Result A E → ℕ → Type 0
 Counts before result now = MatchResult result (λ _. now ≡ before) (λ _. now ≡ min (before + 1) last_count)
 
--- a call that is no write
-abbrev pub IsStill : CallKind → Type 0
-IsStill Size = Unit {0}
-IsStill (Read at) = Unit {0}
-IsStill (Write at) = ⊥
-IsStill Super = ⊥
-IsStill Sync = Unit {0}
+-- no step that is not settled covers this byte
+abbrev pub IsSpared : List Step → ℕ → Type 0
+IsSpared [] i = Unit {0}
+IsSpared (torn at n ∷ older) i = ((i < at) ⊎ (at + n ≤ i)) × IsSpared older i
+IsSpared (whole head ∷ older) i = (length head ≤ i) × IsSpared older i
 
--- a write at this place, or a head, whose place is the start
-abbrev pub IsChangeAt : ℕ → CallKind → Type 0
-IsChangeAt place Size = ⊥
-IsChangeAt place (Read at) = ⊥
-IsChangeAt place (Write at) = at ≡ place
-IsChangeAt place Super = place ≡ 0
-IsChangeAt place Sync = ⊥
-
--- a write, of a range or of the head
-abbrev pub IsChange : CallKind → Type 0
-IsChange Size = ⊥
-IsChange (Read at) = ⊥
-IsChange (Write at) = Unit {0}
-IsChange Super = Unit {0}
-IsChange Sync = ⊥
-
--- the step that a write may leave to a crash
-abbrev pub step_of : CallKind → List ℕ → List ℕ → List ℕ → Type 0
-step_of Size bytes old new = new ≡ old
-step_of (Read at) bytes old new = new ≡ old
-step_of (Write at) bytes old new = Torn at (length bytes) old new
-step_of Super bytes old new = Whole bytes old new
-step_of Sync bytes old new = new ≡ old
+-- An image is at least as long as the settled file, and has its bytes where no step covers them.
+pub record KeepsSettled (settled : List ℕ) (steps : List Step) (c : List ℕ) : Type 0 where
+  pub no_shorter : length settled ≤ length c
+  pub same : (i : ℕ) → i < length settled → IsSpared steps i → slice_index c i ≡ slice_index settled i

@@ -8,6 +8,7 @@ mod failed;
 mod link;
 mod memory;
 mod memory_device;
+mod memory_image;
 mod memory_record;
 mod piece;
 mod records;

@@ -2,12 +2,14 @@ ghost use Rattle.std.specs.Prelude.{◌≡◌, ◌≤◌, ◌<◌, ◌+◌, ◌^
 ghost use Rattle.srv_edge.specs.Disk.{spliced, headed, Torn, Whole, Follows, Among, Only, Elapses};
 ghost use Rattle.srv_edge.specs.Contents.{shown};
 ghost use Rattle.srv_edge.specs.Count.{last_count};
-ghost use Rattle.srv_edge.specs.Replay.{State, IsImageOf, IsStill, IsChangeAt, LeftSince, Keeps, KeepsAs, Counts, after_kind, is_told, state_of};
+ghost use Rattle.srv_edge.specs.Kinds.{place_of, IsStill, IsChange};
+ghost use Rattle.srv_edge.specs.Replay.{State, IsImageOf, LeftSince, Keeps, KeepsAs, Counts, after_kind, image_of, is_told, state_of};
 
 use crate::device::Device;
 use crate::failed::Failed;
+use crate::memory_image::replayed;
 use crate::memory_record::{Call, CallKind, Contents};
-use std::alloc::Global;
+use std::alloc::{AllocError, Global};
 
 // The most calls that are kept.
 const MOST_CALLS: usize = 4_294_967_295;
@@ -65,6 +67,18 @@ impl MemDevice {
         self.calls.get(call as usize).map(|c| c.kind)
     }
 
+    /// One of the images after so many calls: each range that is not settled holds the fill, and the
+    /// heads that are not settled are all there or none.
+    pub fn image(&self, calls: u32, fill: u8, last_super: bool) -> Result<Vec<u8>, AllocError>
+        requires { calls ≤ length (record_of self.now) }
+        ensures text { IfOk result (λ v. v.items ≡ image_of (state_of (first_file self.now) (take calls (record_of self.now))) fill last_super) }
+        ensures image { IfOk result (λ v. IsImageOf (state_of (first_file self.now) (take calls (record_of self.now))) v.items) }
+        ensures left { IfOk result (λ v. ⟦<MemDevice as Device>⟧.left_since self.now calls v.items) }
+    {
+        let calls = &self.calls[..calls as usize];
+        replayed(self.alloc, &self.file.first, calls, fill, last_super)
+    }
+
     // Whether the next call is told to fail.
     fn is_told(&self) -> bool
         ensures { result ≡ is_told self.now.fail.items (length self.now.calls.items) }
@@ -87,6 +101,7 @@ impl MemDevice {
 
     // A call that is to be kept, and room for it. Where there is none it counts a fault.
     fn prepare(&mut self, kind: CallKind, bytes: &[u8], done: bool) -> Result<Call, Failed>
+        requires { place_of kind + length bytes.now ≤ 2 ^ 35 }
         ensures kind { IfOk result (λ c. c.kind ≡ kind) }
         ensures bytes { IfOk result (λ c. c.bytes.items ≡ bytes.now) }
         ensures done { IfOk result (λ c. c.done ≡ done) }
@@ -109,7 +124,8 @@ impl MemDevice {
 
     // Keeps a call that leaves what a read gives. One that is not done counts a fault.
     fn keep(&mut self, kind: CallKind, bytes: &[u8], done: bool) -> Result<(), Failed>
-        requires { (s : State) → (after_kind s kind bytes.now done).seen ≡ s.seen }
+        requires end { place_of kind + length bytes.now ≤ 2 ^ 35 }
+        requires leaves { (s : State) → (after_kind s kind bytes.now done).seen ≡ s.seen }
         ensures kept { KeepsAs done self.old.calls.items kind bytes.now result self.new.calls.items }
         ensures file { self.new.file ≡ self.old.file }
         ensures fail { self.new.fail ≡ self.old.fail }
@@ -138,7 +154,8 @@ impl MemDevice {
 
     // Keeps a write of the bytes at their place. It fails where it is told to.
     fn change(&mut self, kind: CallKind, at: usize, bytes: &[u8]) -> Result<(), Failed>
-        requires place { IsChangeAt at kind }
+        requires change { IsChange kind }
+        requires place { at ≡ place_of kind }
         requires end { at + length bytes.now ≤ 2 ^ 35 }
         ensures kept { Keeps self.old.fail.items self.old.calls.items kind bytes.now result self.new.calls.items }
         ensures written { OnOk result (shown self.new.file ≡ spliced (shown self.old.file) at bytes.now) }
@@ -184,7 +201,7 @@ impl Device for MemDevice {
     ghost only_now = { λ d c left. left_only d.file.first.items d.calls.items c left };
 
     fn size(&mut self) -> Result<u64, Failed>
-        ensures kept { Keeps (failing_calls self.old) (record_of self.old) (CallKind.Size) [] result (record_of self.new) }
+        ensures kept { Keeps (failing_calls self.old) (record_of self.old) CallKind.Size [] result (record_of self.new) }
         ensures first { first_file self.new ≡ first_file self.old }
         ensures fails { failing_calls self.new ≡ failing_calls self.old }
         ensures counted { Counts (⟦<MemDevice as Device>⟧.fault_count self.old) result (⟦<MemDevice as Device>⟧.fault_count self.new) }
@@ -231,7 +248,7 @@ impl Device for MemDevice {
     }
 
     fn write_super(&mut self, bytes: &[u8; 56]) -> Result<(), Failed>
-        ensures kept { Keeps (failing_calls self.old) (record_of self.old) (CallKind.Super) bytes.now result (record_of self.new) }
+        ensures kept { Keeps (failing_calls self.old) (record_of self.old) CallKind.Super bytes.now result (record_of self.new) }
         ensures first { first_file self.new ≡ first_file self.old }
         ensures fails { failing_calls self.new ≡ failing_calls self.old }
         ensures counted { Counts (⟦<MemDevice as Device>⟧.fault_count self.old) result (⟦<MemDevice as Device>⟧.fault_count self.new) }
@@ -244,7 +261,7 @@ impl Device for MemDevice {
     }
 
     fn sync(&mut self) -> Result<(), Failed>
-        ensures kept { Keeps (failing_calls self.old) (record_of self.old) (CallKind.Sync) [] result (record_of self.new) }
+        ensures kept { Keeps (failing_calls self.old) (record_of self.old) CallKind.Sync [] result (record_of self.new) }
         ensures first { first_file self.new ≡ first_file self.old }
         ensures fails { failing_calls self.new ≡ failing_calls self.old }
         ensures counted { Counts (⟦<MemDevice as Device>⟧.fault_count self.old) result (⟦<MemDevice as Device>⟧.fault_count self.new) }

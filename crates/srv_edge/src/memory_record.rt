@@ -1,5 +1,6 @@
 ghost use Rattle.std.specs.Prelude.{◌≡◌, ◌≤◌, ◌+◌, ◌-◌, ◌^◌, ◌++◌, length, take, drop, replicate, vec_len, IfOk, OnOk, OnErr};
 ghost use Rattle.srv_edge.specs.Disk.{spliced};
+ghost use Rattle.srv_edge.specs.Kinds.{place_of};
 
 use std::alloc::{AllocError, Global};
 
@@ -19,10 +20,12 @@ pub struct Call {
     pub kind: CallKind,
     pub bytes: Vec<u8>,
     pub done: bool,
+    pub ghost end: { place_of kind + vec_len bytes ≤ 2 ^ 35 },
 }
 
 impl Call {
     pub fn new(alloc: Global, kind: CallKind, bytes: &[u8], done: bool) -> Result<Call, AllocError>
+        requires { place_of kind + length bytes.now ≤ 2 ^ 35 }
         ensures kind { IfOk result (λ c. c.kind ≡ kind) }
         ensures bytes { IfOk result (λ c. c.bytes.items ≡ bytes.now) }
         ensures done { IfOk result (λ c. c.done ≡ done) }
@@ -86,7 +89,7 @@ pub fn overwrite(file: &mut Vec<u8>, at: usize, bytes: &[u8]) -> Result<(), Allo
 }
 
 // Makes the file so long at least, with zeros.
-fn lengthen(file: &mut Vec<u8>, end: usize) -> Result<(), AllocError>
+pub fn lengthen(file: &mut Vec<u8>, end: usize) -> Result<(), AllocError>
     ensures ok { OnOk result (file.new.items ≡ file.old.items ++ replicate (end - length file.old.items) 0) }
     ensures err { OnErr result (file.new.items ≡ file.old.items) }
 {

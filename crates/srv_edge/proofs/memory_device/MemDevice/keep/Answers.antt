@@ -10,7 +10,7 @@ invariant_of-self c =
     let adds = adds_pushed old.calls.items before c.push.new.self.items c.in_ok-call.call c.args.kind c.args.bytes.now c.args.done c.prepare.ensures.calls is c.in_ok-call.ensures.kind c.in_ok-call.ensures.bytes c.in_ok-call.ensures.done in
     record {
       few = omega (arith, c.in_ok-call.ensures.few);
-      shows = shows_same old.file c.prepare.new.self.file old.calls.items c.push.new.self.items c.args.kind c.args.bytes.now c.args.done c.prepare.ensures.file adds c.requires old.shows;
+      shows = shows_same old.file c.prepare.new.self.file old.calls.items c.push.new.self.items c.args.kind c.args.bytes.now c.args.done c.prepare.ensures.file adds c.requires.leaves old.shows;
     }
 
 pub returns-then-done-clause-kept : goal.returns-then-done-clause-kept
