@@ -1,7 +1,6 @@
 -- A record of calls on a file, and what a crash may make of the file after them.
-use Rattle.std.specs.Prelude.{◌≡◌, ◌≤◌, ◌<◌, ◌+◌, ◌++◌, ◌⊎◌, ℕ, slice_index, Bool, true, false, not, if◌then◌else◌, List, [], ◌∷◌, length, min, take, replicate, ◌==◌, Result, MatchResult}
+use Rattle.std.specs.Prelude.{◌≡◌, ◌≤◌, ◌<◌, ◌+◌, ◌++◌, ◌⊎◌, ℕ, slice_index, Bool, true, false, not, if◌then◌else◌, List, [], ◌∷◌, length, take, replicate, ◌==◌, Result, MatchResult}
 use Rattle.std.specs.List.{list_any}
-use Rattle.srv_edge.specs.Count.{last_count}
 use Rattle.srv_edge.specs.Disk.{spliced, headed, Torn, Whole}
 use Rattle.srv_edge.specs.declared.memory_record.Call.{Call}
 use Rattle.srv_edge.specs.declared.memory_record.CallKind.{CallKind}
@@ -85,10 +84,6 @@ KeepsAs done calls kind bytes result calls' =
 -- A call that is done is kept so, and was not told to fail. One that fails is kept so where it was told to, or not kept.
 abbrev pub Keeps : {A E : Type 0} → List ℕ → List Call → CallKind → List ℕ → Result A E → List Call → Type 0
 Keeps fail calls kind bytes result calls' = KeepsAs (not (is_told fail (length calls))) calls kind bytes result calls'
-
--- a count that rose by one at a call that failed, and at no other
-abbrev pub Counts : {A E : Type 0} → ℕ → Result A E → ℕ → Type 0
-Counts before result now = MatchResult result (λ _. now ≡ before) (λ _. now ≡ min (before + 1) last_count)
 
 -- no step that is not settled covers this byte
 abbrev pub IsSpared : List Step → ℕ → Type 0

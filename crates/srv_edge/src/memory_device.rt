@@ -2,8 +2,9 @@ ghost use Rattle.std.specs.Prelude.{◌≡◌, ◌≤◌, ◌<◌, ◌+◌, ◌^
 ghost use Rattle.srv_edge.specs.Disk.{spliced, headed, Torn, Whole, Follows, Among, Only, Elapses};
 ghost use Rattle.srv_edge.specs.Contents.{shown};
 ghost use Rattle.srv_edge.specs.Count.{last_count};
+ghost use Rattle.srv_edge.specs.Faults.{Counts};
 ghost use Rattle.srv_edge.specs.Kinds.{place_of, IsStill, IsChange};
-ghost use Rattle.srv_edge.specs.Replay.{State, IsImageOf, LeftSince, Keeps, KeepsAs, Counts, after_kind, image_of, is_told, state_of};
+ghost use Rattle.srv_edge.specs.Replay.{State, IsImageOf, LeftSince, Keeps, KeepsAs, after_kind, image_of, is_told, state_of};
 
 use crate::device::Device;
 use crate::failed::Failed;

@@ -1,8 +1,9 @@
-ghost use Rattle.std.specs.Prelude.{◌≡◌, ◌≤◌, ◌+◌, ◌^◌, ◌++◌, if◌then◌else◌, List, length, take, drop, replicate, vec_len, IfOk, OnOk};
+ghost use Rattle.std.specs.Prelude.{◌≡◌, ◌≤◌, ◌+◌, ◌^◌, if◌then◌else◌, length, replicate, IfOk, OnOk};
 ghost use Rattle.srv_edge.specs.Disk.{spliced, headed};
 ghost use Rattle.srv_edge.specs.Replay.{State, after_call, image_of, state_of};
 
-use crate::memory_record::{Call, CallKind, lengthen, overwrite};
+use crate::memory_record::{Call, CallKind};
+use crate::range::{fill_range, overwrite};
 use std::alloc::{AllocError, Global};
 
 // What a read gives and one image, from a point of the record on.
@@ -78,24 +79,6 @@ fn put_head(file: &mut Vec<u8>, head: &[u8], there: bool) -> Result<(), AllocErr
         overwrite(file, 0, head)?;
     }
     Ok(())
-}
-
-// Writes so many bytes, all the same, over what is there and past the end.
-#[tactic(auto, using(crate::proofs::Padded::filled))]
-fn fill_range(file: &mut Vec<u8>, at: usize, n: usize, fill: u8) -> Result<(), AllocError>
-    requires { at + n ≤ 2 ^ 35 }
-    ensures { OnOk result (file.new.items ≡ spliced file.old.items at (replicate n fill)) }
-{
-    lengthen(file, at + n)?;
-    fill_within(file, at, n, fill);
-    Ok(())
-}
-
-fn fill_within(file: &mut Vec<u8>, at: usize, n: usize, fill: u8)
-    requires { at + n ≤ vec_len file.old }
-    ensures { file.new.items ≡ take at file.old.items ++ replicate n fill ++ drop (at + n) file.old.items }
-{
-    file[at..at + n].fill(fill);
 }
 
 // The image after these calls where each range that is not settled holds the fill, and the heads

@@ -1,7 +1,8 @@
-ghost use Rattle.std.specs.Prelude.{◌≡◌, ◌≤◌, ◌+◌, ◌-◌, ◌^◌, ◌++◌, length, take, drop, replicate, vec_len, IfOk, OnOk, OnErr};
+ghost use Rattle.std.specs.Prelude.{◌≡◌, ◌≤◌, ◌+◌, ◌^◌, length, vec_len, IfOk, OnOk, OnErr};
 ghost use Rattle.srv_edge.specs.Disk.{spliced};
 ghost use Rattle.srv_edge.specs.Kinds.{place_of};
 
+use crate::range::overwrite;
 use std::alloc::{AllocError, Global};
 
 /// What a call on a device was.
@@ -74,35 +75,4 @@ impl Contents {
         self.later = Some(later);
         done
     }
-}
-
-// Writes over what is there, and past the end, with zeros between. Where there is no memory nothing is written.
-#[tactic(auto, using(crate::proofs::Padded::written))]
-pub fn overwrite(file: &mut Vec<u8>, at: usize, bytes: &[u8]) -> Result<(), AllocError>
-    requires { at + length bytes.now ≤ 2 ^ 35 }
-    ensures ok { OnOk result (file.new.items ≡ spliced file.old.items at bytes.now) }
-    ensures err { OnErr result (file.new.items ≡ file.old.items) }
-{
-    lengthen(file, at + bytes.len())?;
-    put_within(file, at, bytes);
-    Ok(())
-}
-
-// Makes the file so long at least, with zeros.
-pub fn lengthen(file: &mut Vec<u8>, end: usize) -> Result<(), AllocError>
-    ensures ok { OnOk result (file.new.items ≡ file.old.items ++ replicate (end - length file.old.items) 0) }
-    ensures err { OnErr result (file.new.items ≡ file.old.items) }
-{
-    if file.len() < end {
-        file.resize(end, 0)?;
-    }
-    Ok(())
-}
-
-// Writes over what is there.
-fn put_within(file: &mut Vec<u8>, at: usize, bytes: &[u8])
-    requires { at + length bytes.now ≤ vec_len file.old }
-    ensures { file.new.items ≡ take at file.old.items ++ bytes.now ++ drop (at + length bytes.now) file.old.items }
-{
-    file[at..at + bytes.len()].copy_from_slice(bytes);
 }
