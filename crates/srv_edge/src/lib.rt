@@ -18,6 +18,8 @@ mod sink;
 mod source;
 mod standard;
 mod still;
+#[cfg(test)]
+mod tests;
 mod words;
 
 pub use crate::both::Both;
