@@ -4,3 +4,6 @@ pub mod Numbers
 pub mod Streams
 pub mod Moments
 pub mod Ranges
+mod Padded
+mod Replaying
+pub mod Settled

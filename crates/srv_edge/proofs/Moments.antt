@@ -1,5 +1,5 @@
 -- What a crash at any moment of a run of calls leaves.
-use Rattle.std.proofs.Common.{◌≡◌, ◌≤◌, ℕ, List, ◌⊎◌, inl, inr, arith}
+use Rattle.std.proofs.Common.{◌≤◌, ℕ, List, ◌⊎◌, inl, inr, arith}
 use Rattle.srv_edge.specs.Disk.{Elapses, Follows, LeavesOnly}
 
 -- either of two cases gives this

@@ -2,7 +2,7 @@
 use Rattle.std.proofs.Common.{◌≡◌, ◌≤◌, ◌<◌, ◌+◌, ◌-◌, ◌++◌, ◌⊎◌, inl, inr, ℕ, List, length, take, drop, replicate, get_or, refl, sym, ◌∙◌, ap, max, arith}
 use Rattle.std.proofs.lemmas.List.{length-take, length-drop, length-append, append_assoc, take_at, drop_at, drop-drop, get_or-take, get_or-drop, ext_get_or}
 use Rattle.srv_edge.specs.Disk.{spliced, headed, Torn}
-use Rattle.srv_edge.specs.Torn.{length-front, length-spliced, torn-spliced}
+use Rattle.srv_edge.specs.Torn.{length-front, torn-spliced}
 
 -- two files with the same bytes in a range
 pub same_range : (a k : ℕ) (xs ys : List ℕ) → a + k ≤ length xs → a + k ≤ length ys → ((i : ℕ) → a ≤ i → i < a + k → get_or xs i 0 ≡ get_or ys i 0) → take k (drop a xs) ≡ take k (drop a ys)

@@ -3,6 +3,14 @@ pub mod Stream
 pub mod Frames
 pub mod Records
 pub mod Memory
+pub mod Faults
 pub mod Disk
 pub mod Torn
 pub mod Still
+pub mod Absent
+pub mod Kinds
+pub mod Replay
+pub mod Past
+pub mod Contents
+pub mod Recorded
+pub mod Images

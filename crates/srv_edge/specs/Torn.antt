@@ -1,6 +1,6 @@
 -- What a write that is done, and one that is not begun, leave is among what a torn one may leave.
-use Rattle.std.proofs.Common.{◌≡◌, ◌≤◌, ◌<◌, ◌+◌, ◌-◌, ◌++◌, ℕ, List, length, take, drop, replicate, get_or, refl, sym, ◌∙◌, ap, max, arith}
-use Rattle.std.proofs.lemmas.List.{length-take, length-replicate, length-append, length-drop, append_assoc, get_or_append_left, get_or-append_right, get_or-take, get_or-drop}
+use Rattle.std.proofs.Common.{◌≡◌, ◌≤◌, ◌<◌, ◌+◌, ◌-◌, ◌++◌, ℕ, List, length, take, drop, replicate, get_or, refl, ◌∙◌, ap, max, arith}
+use Rattle.std.proofs.lemmas.List.{length-take, length-replicate, length-append, length-drop, get_or_append_left, get_or-append_right, get_or-take, get_or-drop}
 use Rattle.srv_edge.specs.Disk.{spliced, Torn}
 
 -- what stands in front of the bytes of a write

@@ -5,21 +5,31 @@
 mod both;
 mod device;
 mod failed;
+mod file;
 mod link;
 mod memory;
+mod memory_device;
+mod memory_image;
+mod memory_record;
 mod piece;
+mod range;
 mod records;
 mod sink;
 mod source;
 mod standard;
 mod still;
+#[cfg(test)]
+mod tests;
 mod words;
 
 pub use crate::both::Both;
 pub use crate::device::Device;
 pub use crate::failed::{Failed, Limits, Refusal, SessionEnd};
+pub use crate::file::FileDevice;
 pub use crate::link::Link;
 pub use crate::memory::{MemLink, MemSink, MemSource};
+pub use crate::memory_device::MemDevice;
+pub use crate::memory_record::CallKind;
 pub use crate::piece::{PIECE_BYTES, Piece, Room, Text};
 pub use crate::records::RecordList;
 pub use crate::sink::{Sink, give_all};

@@ -1,66 +1,76 @@
-ghost use Rattle.std.specs.Prelude.{◌≡◌, ◌≤◌, ◌+◌, ◌^◌, ◌↔◌, length, max, vec_len, IsOk, IfOk, OnOk, OnErr, MatchResult};
-ghost use Rattle.srv_edge.specs.Count.{Rose};
+ghost use Rattle.std.specs.Prelude.{◌≡◌, ◌≤◌, ◌+◌, ◌^◌, ◌↔◌, length, take, drop, min, vec_len, vec_capacity, IsOk, IfOk, OnOk, MatchResult};
+ghost use Rattle.srv_edge.specs.Count.{last_count};
+ghost use Rattle.srv_edge.specs.Disk.{spliced, headed};
+ghost use Rattle.srv_edge.specs.Faults.{Counts};
 
 use crate::device::Device;
 use crate::failed::Failed;
+use crate::range::overwrite;
 use std::alloc::{AllocError, Global};
 
-/// A file in a memory of fixed size, for a server that is to keep nothing. It tells no content, so
-/// no clause of its trait speaks of crashes.
+/// A file in a memory of fixed size, for a server that is to keep nothing. It tells its callers no
+/// content, so no clause of its trait speaks of crashes.
 ///
-/// It fails, and its count rises, exactly at a write that ends past its room and at a read that
-/// ends past the file.
+/// It fails exactly at a write that ends past its room and at a read that ends past the file.
 #[derive(Drop)]
 pub struct StillDevice {
-    room: Vec<u8>,
-    len: usize,
+    bytes: Vec<u8>,
+    room: usize,
     faults: u64,
-    ghost within: { len ≤ vec_len room },
+    ghost within: { vec_len bytes ≤ room },
+    ghost ready: { room ≤ vec_capacity bytes },
 }
 
 impl StillDevice {
-    ghost use Rattle.srv_edge.specs.Still.{room_of, still_size};
+    ghost use Rattle.srv_edge.specs.Still.{room_of, still_bytes};
 
     /// It takes the memory of its room first, and no more afterwards.
     pub fn new(alloc: Global, bytes: Vec<u8>, room: u32) -> Result<StillDevice, AllocError>
         requires { vec_len bytes ≤ room }
         ensures room { IfOk result (λ d. room_of d ≡ room) }
-        ensures size { IfOk result (λ d. still_size d ≡ vec_len bytes) }
+        ensures bytes { IfOk result (λ d. still_bytes d ≡ bytes.items) }
         ensures faults { IfOk result (λ d. ⟦<StillDevice as Device>⟧.fault_count d ≡ 0) }
     {
-        let mut all = vec![in alloc; 0; room as usize]?;
-        all[..bytes.len()].copy_from_slice(&bytes);
+        let mut all = Vec::with_capacity(alloc, room as usize)?;
+        all.extend_from_slice(&bytes).unwrap();
         Ok(StillDevice {
-            room: all,
-            len: bytes.len(),
+            bytes: all,
+            room: room as usize,
             faults: 0,
         })
+    }
+
+    // Counts a fault.
+    fn fault(&mut self) -> Failed
+        ensures bytes { self.new.bytes ≡ self.old.bytes }
+        ensures room { self.new.room ≡ self.old.room }
+        ensures counted { self.new.faults ≡ min (self.old.faults + 1) last_count }
+        ensures never_falls { self.old.faults ≤ self.new.faults }
+    {
+        let faults = self.faults;
+        self.faults = faults.saturating_add(1);
+        Failed
     }
 
     // Puts the bytes in their place, where they fit.
     fn put(&mut self, at: usize, bytes: &[u8]) -> Result<(), Failed>
         requires { at + length bytes.now ≤ 2 ^ 35 }
         ensures fits { IsOk result ↔ (at + length bytes.now ≤ room_of self.old) }
+        ensures bytes { MatchResult result (λ _. still_bytes self.new ≡ spliced (still_bytes self.old) at bytes.now) (λ _. still_bytes self.new ≡ still_bytes self.old) }
         ensures room { room_of self.new ≡ room_of self.old }
-        ensures size { MatchResult result (λ _. still_size self.new ≡ max (still_size self.old) (at + length bytes.now)) (λ _. still_size self.new ≡ still_size self.old) }
-        ensures kept { OnOk result (self.new.faults ≡ self.old.faults) }
-        ensures failed { OnErr result (Rose self.old.faults self.new.faults) }
-        ensures never_falls { self.old.faults ≤ self.new.faults }
+        ensures counted { Counts (⟦<StillDevice as Device>⟧.fault_count self.old) result (⟦<StillDevice as Device>⟧.fault_count self.new) }
+        ensures never_falls { ⟦<StillDevice as Device>⟧.fault_count self.old ≤ ⟦<StillDevice as Device>⟧.fault_count self.new }
     {
-        let faults = self.faults;
-        let end = at + bytes.len();
-        if end > self.room.len() {
-            self.faults = faults.saturating_add(1);
-            return Err(Failed);
+        if at + bytes.len() > self.room {
+            return Err(self.fault());
         }
-        self.room[at..end].copy_from_slice(bytes);
-        self.len = self.len.max(end);
+        overwrite(&mut self.bytes, at, bytes).unwrap();
         Ok(())
     }
 }
 
 impl Device for StillDevice {
-    ghost use Rattle.srv_edge.specs.Still.{room_of, still_size};
+    ghost use Rattle.srv_edge.specs.Still.{room_of, still_bytes};
 
     ghost fault_count = { λ d. d.faults };
 
@@ -73,50 +83,46 @@ impl Device for StillDevice {
     ghost only_now = { λ d c none. none };
 
     fn size(&mut self) -> Result<u64, Failed>
-        ensures answer { IfOk result (λ n. n ≡ still_size self.old) }
+        ensures answer { IfOk result (λ n. n ≡ length (still_bytes self.old)) }
         ensures ok { IsOk result }
         ensures same { self.new ≡ self.old }
     {
-        Ok(self.len as u64)
+        Ok(self.bytes.len() as u64)
     }
 
     fn read(&mut self, at: u64, out: &mut [u8]) -> Result<(), Failed>
-        ensures fits { IsOk result ↔ (at + length out.old ≤ still_size self.old) }
+        ensures fits { IsOk result ↔ (at + length out.old ≤ length (still_bytes self.old)) }
+        ensures out { OnOk result (out.new ≡ take (length out.old) (drop at (still_bytes self.old))) }
+        ensures bytes { still_bytes self.new ≡ still_bytes self.old }
         ensures room { room_of self.new ≡ room_of self.old }
-        ensures size { still_size self.new ≡ still_size self.old }
-        ensures kept { OnOk result (self.new.faults ≡ self.old.faults) }
-        ensures failed { OnErr result (Rose self.old.faults self.new.faults) }
-        ensures never_falls { self.old.faults ≤ self.new.faults }
+        ensures counted { Counts (⟦<StillDevice as Device>⟧.fault_count self.old) result (⟦<StillDevice as Device>⟧.fault_count self.new) }
+        ensures never_falls { ⟦<StillDevice as Device>⟧.fault_count self.old ≤ ⟦<StillDevice as Device>⟧.fault_count self.new }
     {
-        let faults = self.faults;
         let from = at as usize;
-        if from > self.len || out.len() > self.len - from {
-            self.faults = faults.saturating_add(1);
-            return Err(Failed);
+        if from > self.bytes.len() || out.len() > self.bytes.len() - from {
+            return Err(self.fault());
         }
-        out.copy_from_slice(&self.room[from..from + out.len()]);
+        out.copy_from_slice(&self.bytes[from..from + out.len()]);
         Ok(())
     }
 
     fn write(&mut self, at: u64, bytes: &[u8]) -> Result<(), Failed>
         requires end { at + length bytes.now ≤ 2 ^ 35 }
         ensures fits { IsOk result ↔ (at + length bytes.now ≤ room_of self.old) }
+        ensures bytes { MatchResult result (λ _. still_bytes self.new ≡ spliced (still_bytes self.old) at bytes.now) (λ _. still_bytes self.new ≡ still_bytes self.old) }
         ensures room { room_of self.new ≡ room_of self.old }
-        ensures size { MatchResult result (λ _. still_size self.new ≡ max (still_size self.old) (at + length bytes.now)) (λ _. still_size self.new ≡ still_size self.old) }
-        ensures kept { OnOk result (self.new.faults ≡ self.old.faults) }
-        ensures failed { OnErr result (Rose self.old.faults self.new.faults) }
-        ensures never_falls { self.old.faults ≤ self.new.faults }
+        ensures counted { Counts (⟦<StillDevice as Device>⟧.fault_count self.old) result (⟦<StillDevice as Device>⟧.fault_count self.new) }
+        ensures never_falls { ⟦<StillDevice as Device>⟧.fault_count self.old ≤ ⟦<StillDevice as Device>⟧.fault_count self.new }
     {
         self.put(at as usize, bytes)
     }
 
     fn write_super(&mut self, bytes: &[u8; 56]) -> Result<(), Failed>
         ensures fits { IsOk result ↔ (56 ≤ room_of self.old) }
+        ensures bytes { MatchResult result (λ _. still_bytes self.new ≡ headed (still_bytes self.old) bytes.now) (λ _. still_bytes self.new ≡ still_bytes self.old) }
         ensures room { room_of self.new ≡ room_of self.old }
-        ensures size { MatchResult result (λ _. still_size self.new ≡ max (still_size self.old) 56) (λ _. still_size self.new ≡ still_size self.old) }
-        ensures kept { OnOk result (self.new.faults ≡ self.old.faults) }
-        ensures failed { OnErr result (Rose self.old.faults self.new.faults) }
-        ensures never_falls { self.old.faults ≤ self.new.faults }
+        ensures counted { Counts (⟦<StillDevice as Device>⟧.fault_count self.old) result (⟦<StillDevice as Device>⟧.fault_count self.new) }
+        ensures never_falls { ⟦<StillDevice as Device>⟧.fault_count self.old ≤ ⟦<StillDevice as Device>⟧.fault_count self.new }
     {
         self.put(0, bytes)
     }

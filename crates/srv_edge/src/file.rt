@@ -1,0 +1,194 @@
+ghost use Rattle.std.specs.Prelude.{◌≡◌, ◌≤◌, ◌+◌, IsNone, IsErr, min, false, true};
+ghost use Rattle.srv_edge.specs.Count.{last_count};
+ghost use Rattle.srv_edge.specs.Faults.{Counts};
+
+use crate::device::Device;
+use crate::failed::Failed;
+use std::fs::OpenFile;
+use std::os::unix::fs::FileExt;
+
+/// A file of the system, such as a [`std::fs::File`] that is open for reading and writing. It tells
+/// no content.
+///
+/// What the system does with the bytes is trusted. Of each call only its count is proved: it rises by
+/// one at each error, and at nothing else. An error is what the system answers so, a read past the
+/// end, and a head that the system takes in part. Reads and writes are positioned and go on where the
+/// system does a part of them; a head is one write of 56 bytes, which a crash is trusted to leave
+/// whole or not at all; a sync asks for data and length both. A read of no bytes asks nothing of the
+/// system.
+#[derive(Drop)]
+pub struct FileDevice<F> {
+    file: Option<F>,
+    faults: u64,
+}
+
+impl<F: FileExt + OpenFile> FileDevice<F> {
+    ghost use Rattle.srv_edge.specs.Absent.{is_absent};
+
+    pub fn new(file: F) -> FileDevice<F>
+        ensures present { is_absent result ≡ false }
+        ensures faults { ⟦<FileDevice<F> as Device>⟧.fault_count result ≡ 0 }
+    {
+        FileDevice {
+            file: Some(file),
+            faults: 0,
+        }
+    }
+
+    /// Where there is no file. Each call fails.
+    pub fn absent() -> FileDevice<F>
+        ensures absent { is_absent result ≡ true }
+        ensures faults { ⟦<FileDevice<F> as Device>⟧.fault_count result ≡ 0 }
+    {
+        FileDevice {
+            file: None,
+            faults: 0,
+        }
+    }
+
+    // Counts a fault.
+    fn fault(&mut self) -> Failed
+        ensures file { self.new.file ≡ self.old.file }
+        ensures counted { self.new.faults ≡ min (self.old.faults + 1) last_count }
+        ensures never_falls { self.old.faults ≤ self.new.faults }
+    {
+        let faults = self.faults;
+        self.faults = faults.saturating_add(1);
+        Failed
+    }
+}
+
+impl<F: FileExt + OpenFile> Device for FileDevice<F> {
+    ghost use Rattle.srv_edge.specs.Absent.{is_absent};
+
+    ghost fault_count = { λ d. d.faults };
+
+    ghost told = { λ d c none. absurd none };
+
+    ghost seen_is_one = { λ d no. Prim.cc };
+
+    ghost counts_now = { λ d t c le none. none };
+
+    ghost only_now = { λ d c none. none };
+
+    fn size(&mut self) -> Result<u64, Failed>
+        ensures counted { Counts (⟦<FileDevice<F> as Device>⟧.fault_count self.old) result (⟦<FileDevice<F> as Device>⟧.fault_count self.new) }
+        ensures never_falls { ⟦<FileDevice<F> as Device>⟧.fault_count self.old ≤ ⟦<FileDevice<F> as Device>⟧.fault_count self.new }
+        ensures present { is_absent self.new ≡ is_absent self.old }
+        ensures absent { is_absent self.old ≡ true → IsErr result }
+    {
+        let Some(size) = size_of(&self.file) else {
+            return Err(self.fault());
+        };
+        Ok(size)
+    }
+
+    fn read(&mut self, at: u64, out: &mut [u8]) -> Result<(), Failed>
+        ensures counted { Counts (⟦<FileDevice<F> as Device>⟧.fault_count self.old) result (⟦<FileDevice<F> as Device>⟧.fault_count self.new) }
+        ensures never_falls { ⟦<FileDevice<F> as Device>⟧.fault_count self.old ≤ ⟦<FileDevice<F> as Device>⟧.fault_count self.new }
+        ensures present { is_absent self.new ≡ is_absent self.old }
+        ensures absent { is_absent self.old ≡ true → IsErr result }
+    {
+        if read_all(&self.file, at, out) {
+            Ok(())
+        } else {
+            Err(self.fault())
+        }
+    }
+
+    fn write(&mut self, at: u64, bytes: &[u8]) -> Result<(), Failed>
+        ensures counted { Counts (⟦<FileDevice<F> as Device>⟧.fault_count self.old) result (⟦<FileDevice<F> as Device>⟧.fault_count self.new) }
+        ensures never_falls { ⟦<FileDevice<F> as Device>⟧.fault_count self.old ≤ ⟦<FileDevice<F> as Device>⟧.fault_count self.new }
+        ensures present { is_absent self.new ≡ is_absent self.old }
+        ensures absent { is_absent self.old ≡ true → IsErr result }
+    {
+        if write_all(&self.file, at, bytes) {
+            Ok(())
+        } else {
+            Err(self.fault())
+        }
+    }
+
+    fn write_super(&mut self, bytes: &[u8; 56]) -> Result<(), Failed>
+        ensures counted { Counts (⟦<FileDevice<F> as Device>⟧.fault_count self.old) result (⟦<FileDevice<F> as Device>⟧.fault_count self.new) }
+        ensures never_falls { ⟦<FileDevice<F> as Device>⟧.fault_count self.old ≤ ⟦<FileDevice<F> as Device>⟧.fault_count self.new }
+        ensures present { is_absent self.new ≡ is_absent self.old }
+        ensures absent { is_absent self.old ≡ true → IsErr result }
+    {
+        if write_once(&self.file, bytes) {
+            Ok(())
+        } else {
+            Err(self.fault())
+        }
+    }
+
+    fn sync(&mut self) -> Result<(), Failed>
+        ensures counted { Counts (⟦<FileDevice<F> as Device>⟧.fault_count self.old) result (⟦<FileDevice<F> as Device>⟧.fault_count self.new) }
+        ensures never_falls { ⟦<FileDevice<F> as Device>⟧.fault_count self.old ≤ ⟦<FileDevice<F> as Device>⟧.fault_count self.new }
+        ensures present { is_absent self.new ≡ is_absent self.old }
+        ensures absent { is_absent self.old ≡ true → IsErr result }
+    {
+        if sync_all(&self.file) {
+            Ok(())
+        } else {
+            Err(self.fault())
+        }
+    }
+
+    fn faults(&self) -> u64 {
+        self.faults
+    }
+}
+
+// How many bytes the file has.
+fn size_of<F: OpenFile>(file: &Option<F>) -> Option<u64>
+    ensures { IsNone file.now → IsNone result }
+{
+    let Some(file) = file else {
+        return None;
+    };
+    match file.metadata() {
+        Ok(metadata) => Some(metadata.len()),
+        Err(_) => None,
+    }
+}
+
+// Fills the slice from a place on, in as many reads as it takes.
+fn read_all<F: FileExt>(file: &Option<F>, at: u64, out: &mut [u8]) -> bool
+    ensures { IsNone file.now → result ≡ false }
+{
+    match file {
+        Some(file) => file.read_exact_at(out, at).is_ok(),
+        None => false,
+    }
+}
+
+// Writes all the bytes, in as many writes as it takes.
+fn write_all<F: FileExt>(file: &Option<F>, at: u64, bytes: &[u8]) -> bool
+    ensures { IsNone file.now → result ≡ false }
+{
+    match file {
+        Some(file) => file.write_all_at(bytes, at).is_ok(),
+        None => false,
+    }
+}
+
+// Writes the head by one write, which is to take it whole.
+fn write_once<F: FileExt>(file: &Option<F>, head: &[u8; 56]) -> bool
+    ensures { IsNone file.now → result ≡ false }
+{
+    match file {
+        Some(file) => matches!(file.write_at(head, 0), Ok(56)),
+        None => false,
+    }
+}
+
+// Asks that data and length both be kept.
+fn sync_all<F: OpenFile>(file: &Option<F>) -> bool
+    ensures { IsNone file.now → result ≡ false }
+{
+    match file {
+        Some(file) => file.sync_all().is_ok(),
+        None => false,
+    }
+}

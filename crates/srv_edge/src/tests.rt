@@ -1,0 +1,259 @@
+use crate::{CallKind, Device, FileDevice, MemDevice, StillDevice};
+use std::alloc::{AllocError, Global};
+use std::fs::{File, Metadata, OpenFile};
+use std::io;
+use std::os::unix::fs::FileExt;
+use std::test::Fail;
+
+// A file with the same byte in each place of its head, zeros up to 512, and then these bytes.
+fn file_of(alloc: Global, head: u8, rest: &[u8], fill: u8) -> Result<Vec<u8>, AllocError> {
+    let mut file = vec![in alloc; 0; 512]?;
+    for byte in file[..56].iter_mut() {
+        *byte = head;
+    }
+    for byte in rest {
+        file.push(if *byte == b'?' { fill } else { *byte })?;
+    }
+    Ok(file)
+}
+
+// The calls of the tests, and which of them answered Ok.
+fn make_calls<D: Device>(device: &mut D) -> [bool; 12] {
+    let mut ok = [false; 12];
+    ok[0] = device.write(513, b"XY").is_ok();
+    ok[1] = device.write(517, b"PQ").is_ok();
+    ok[2] = device.sync().is_ok();
+    ok[3] = device.write_super(&[b's'; 56]).is_ok();
+    ok[4] = device.write(512, b"mn").is_ok();
+    ok[5] = device.sync().is_ok();
+    ok[6] = device.write_super(&[b't'; 56]).is_ok();
+    if let Ok(size) = device.size() {
+        ok[7] = true;
+        if size >= 516 {
+            ok[8] = device.read(512, &mut [0; 4]).is_ok();
+        }
+    }
+    ok[9] = device.write_super(&[b'u'; 56]).is_ok();
+    ok[10] = device.write(518, b"z").is_ok();
+    ok[11] = device.sync().is_ok();
+    ok
+}
+
+fn device_of(alloc: Global, fail: &[u32]) -> Result<MemDevice, AllocError> {
+    let file = file_of(alloc, b'h', b"abcd", 0)?;
+    Ok(MemDevice::new(alloc, file, fail.to_vec(alloc)?))
+}
+
+// What a crash may leave after each of the calls, of which three failed: the head where no head that
+// is not settled is there, the head where all are, and what is behind the head, with a ? for the fill.
+const IMAGES: [(u8, u8, &[u8]); 13] = [
+    (b'h', b'h', b"abcd"),
+    (b'h', b'h', b"a??d"),
+    (b'h', b'h', b"a??d\0??"),
+    (b'h', b'h', b"a??d\0??"),
+    (b'h', b's', b"a??d\0??"),
+    (b'h', b's', b"???d\0??"),
+    (b's', b's', b"aXYd\0PQ"),
+    (b's', b't', b"aXYd\0PQ"),
+    (b's', b't', b"aXYd\0PQ"),
+    (b's', b't', b"aXYd\0PQ"),
+    (b's', b'u', b"aXYd\0PQ"),
+    (b's', b'u', b"aXYd\0P?"),
+    (b'u', b'u', b"aXYd\0Pz"),
+];
+
+#[test]
+fn images_after_each_call(rt: HostRuntime) -> Result<(), Fail> {
+    let mut device = device_of(rt.alloc(), &[2, 4, 6])?;
+    let ok = make_calls(&mut device);
+    let want = [
+        true, true, false, true, false, true, false, true, true, true, true, true,
+    ];
+    assert_eq!(rt; ok, want);
+    assert_eq!(rt; device.faults(), 3);
+    let mut calls = 0;
+    for (none, all, rest) in IMAGES {
+        assert!(rt; calls <= device.calls());
+        for fill in [0, 255, 165] {
+            let image = device.image(calls, fill, false)?;
+            assert_eq!(rt;
+                image,
+                file_of(rt.alloc(), none, rest, fill)?,
+                "after {calls}"
+            );
+            let image = device.image(calls, fill, true)?;
+            assert_eq!(rt;
+                image,
+                file_of(rt.alloc(), all, rest, fill)?,
+                "after {calls}"
+            );
+        }
+        calls = calls.saturating_add(1);
+    }
+    assert_eq!(rt; device.calls(), 12);
+    Ok(())
+}
+
+#[test]
+fn kinds_of_the_calls(rt: HostRuntime) -> Result<(), Fail> {
+    let mut device = device_of(rt.alloc(), &[])?;
+    let _ok = make_calls(&mut device);
+    let want = [
+        CallKind::Write { at: 513 },
+        CallKind::Write { at: 517 },
+        CallKind::Sync,
+        CallKind::Super,
+        CallKind::Write { at: 512 },
+        CallKind::Sync,
+        CallKind::Super,
+        CallKind::Size,
+        CallKind::Read { at: 512 },
+        CallKind::Super,
+        CallKind::Write { at: 518 },
+        CallKind::Sync,
+    ];
+    for (call, kind) in (0..).zip(want) {
+        assert_eq!(rt; device.kind_at(call), Some(kind), "at {call}");
+    }
+    assert_eq!(rt; device.kind_at(12), None);
+    Ok(())
+}
+
+// Where one call is told to fail it alone fails, and each is kept.
+#[test]
+fn each_call_failing_in_turn(rt: HostRuntime) -> Result<(), Fail> {
+    for told in 0..12 {
+        let mut device = device_of(rt.alloc(), &[told])?;
+        let ok = make_calls(&mut device);
+        for (call, ok) in (0..).zip(ok) {
+            let unasked = told == 7 && call == 8;
+            assert_eq!(rt; ok, call != told && !unasked, "{call} where {told} fails");
+        }
+        assert_eq!(rt; device.faults(), 1);
+        assert_eq!(rt; device.calls(), if told == 7 { 11 } else { 12 });
+    }
+    Ok(())
+}
+
+// A device of 5 bytes with room for 600.
+fn still(alloc: Global) -> Result<StillDevice, AllocError> {
+    StillDevice::new(alloc, b"abcde".to_vec(alloc)?, 600)
+}
+
+#[test]
+fn still_device_at_the_end_of_its_room(rt: HostRuntime) -> Result<(), Fail> {
+    let mut device = still(rt.alloc())?;
+    assert_eq!(rt; device.size().ok(), Some(5));
+    assert!(rt; device.write(598, b"yz").is_ok());
+    assert_eq!(rt; device.faults(), 0);
+    assert!(rt; device.write(599, b"yz").is_err());
+    assert_eq!(rt; device.faults(), 1);
+    assert_eq!(rt; device.size().ok(), Some(600));
+    let mut out = [1; 3];
+    assert!(rt; device.read(597, &mut out).is_ok());
+    assert_eq!(rt; out, [0, b'y', b'z']);
+    assert!(rt; device.read(598, &mut out).is_err());
+    assert!(rt; device.read(u64::MAX, &mut out).is_err());
+    assert_eq!(rt; device.faults(), 3);
+    assert!(rt; device.write_super(&[b'h'; 56]).is_ok());
+    assert!(rt; device.sync().is_ok());
+    assert!(rt; device.read(54, &mut out).is_ok());
+    assert_eq!(rt; out, [b'h', b'h', 0]);
+    Ok(())
+}
+
+#[test]
+fn still_device_with_no_room_for_a_head(rt: HostRuntime) -> Result<(), Fail> {
+    let mut device = StillDevice::new(rt.alloc(), Vec::new(rt.alloc()), 55)?;
+    assert!(rt; device.write_super(&[0; 56]).is_err());
+    assert_eq!(rt; device.faults(), 1);
+    let mut device = StillDevice::new(rt.alloc(), Vec::new(rt.alloc()), 56)?;
+    assert!(rt; device.write_super(&[0; 56]).is_ok());
+    assert_eq!(rt; device.faults(), 0);
+    Ok(())
+}
+
+// A file of 1,000 bytes that reads and writes one byte a call, and cannot sync.
+#[derive(Drop)]
+struct Slow;
+
+impl FileExt for Slow {
+    fn read_at(&self, buf: &mut [u8], offset: u64) -> io::Result<usize> {
+        if offset >= 1_000 || buf.is_empty() {
+            return Ok(0);
+        }
+        buf[0] = (offset % 256) as u8;
+        Ok(1)
+    }
+
+    fn write_at(&self, buf: &[u8], _offset: u64) -> io::Result<usize> {
+        Ok(buf.len().min(1))
+    }
+}
+
+impl OpenFile for Slow {
+    fn metadata(&self) -> io::Result<Metadata> {
+        Ok(Metadata::of_file(1_000))
+    }
+
+    fn set_len(&self, _size: u64) -> io::Result<()> {
+        Err(io::Error::from(io::ErrorKind::Unsupported))
+    }
+
+    fn sync_all(&self) -> io::Result<()> {
+        Err(io::Error::from(io::ErrorKind::Unsupported))
+    }
+
+    fn sync_data(&self) -> io::Result<()> {
+        Err(io::Error::from(io::ErrorKind::Unsupported))
+    }
+}
+
+#[test]
+fn a_slow_file_is_read_on(rt: HostRuntime) {
+    let mut device = FileDevice::new(Slow);
+    assert_eq!(rt; device.size().ok(), Some(1_000));
+    let mut out = [0; 3];
+    assert!(rt; device.read(997, &mut out).is_ok());
+    assert_eq!(rt; out, [229, 230, 231]);
+    assert!(rt; device.write(512, b"abc").is_ok());
+    assert_eq!(rt; device.faults(), 0);
+    assert!(rt; device.read(998, &mut out).is_err());
+    assert!(rt; device.write_super(&[0; 56]).is_err());
+    assert!(rt; device.sync().is_err());
+    assert_eq!(rt; device.faults(), 3);
+}
+
+#[test]
+fn an_absent_file_fails_at_each_call(rt: HostRuntime) {
+    let mut device: FileDevice<File> = FileDevice::absent();
+    assert!(rt; device.size().is_err());
+    assert!(rt; device.read(0, &mut [0; 1]).is_err());
+    assert!(rt; device.write(512, b"a").is_err());
+    assert!(rt; device.write_super(&[0; 56]).is_err());
+    assert!(rt; device.sync().is_err());
+    assert_eq!(rt; device.faults(), 5);
+}
+
+// A file of the system: what is written is read again, and stands in the file.
+#[test]
+fn a_real_file(rt: HostRuntime) -> Result<(), Fail> {
+    let folder = std::env::temp_dir(&rt)?;
+    let id = std::process::id(rt.process());
+    let path = format!(in rt.alloc(); "{}/srv_edge-{id}.pdb", folder.as_str())?;
+    let mut device = FileDevice::new(File::create_new(&rt, path.as_str())?);
+    assert!(rt; device.write(512, b"abcd").is_ok());
+    assert!(rt; device.write_super(&[b'h'; 56]).is_ok());
+    assert!(rt; device.sync().is_ok());
+    assert_eq!(rt; device.size().ok(), Some(516));
+    let mut out = [0; 4];
+    assert!(rt; device.read(512, &mut out).is_ok());
+    assert_eq!(rt; out, *b"abcd");
+    assert_eq!(rt; device.faults(), 0);
+    assert!(rt; device.read(513, &mut out).is_err());
+    assert_eq!(rt; device.faults(), 1);
+    let text = std::fs::read(&rt, path.as_str())?;
+    std::fs::remove_file(&rt, path.as_str())?;
+    assert_eq!(rt; text, file_of(rt.alloc(), b'h', b"abcd", 0)?);
+    Ok(())
+}
