@@ -1,5 +1,5 @@
 ghost use Rattle.std.specs.Prelude.{◌≡◌};
-ghost use Rattle.msf_image.specs.Faults.{fault_of_directory, fault_of_read, fault_of_superblock};
+ghost use Rattle.msf_image.specs.Faults.{fault_of_directory, fault_of_read, fault_of_superblock, kind_text};
 ghost use Rattle.msf_image.specs.declared.fault.OpenFault.TheVariants.{DiskFault, OutOfMemory};
 
 use crate::blocks::ReadFault;
@@ -27,9 +27,12 @@ pub enum DamageKind {
     BlockFree,
 }
 
-impl fmt::Display for DamageKind {
-    fn fmt<W: fmt::Write>(&self, f: &mut fmt::Formatter<W>) -> fmt::Result {
-        f.write_str(match self {
+impl DamageKind {
+    /// The word for it in a line of `check`.
+    pub fn name(self) -> &'static str
+        ensures { result.now ≡ kind_text self }
+    {
+        match self {
             DamageKind::Magic => "magic",
             DamageKind::BlockSize => "block-size",
             DamageKind::FreeMap => "free-map",
@@ -42,7 +45,13 @@ impl fmt::Display for DamageKind {
             DamageKind::DirectoryShort => "directory-short",
             DamageKind::DirectoryExtra => "directory-extra",
             DamageKind::BlockFree => "block-free",
-        })
+        }
+    }
+}
+
+impl fmt::Display for DamageKind {
+    fn fmt<W: fmt::Write>(&self, f: &mut fmt::Formatter<W>) -> fmt::Result {
+        f.write_str(self.name())
     }
 }
 

@@ -25,6 +25,8 @@ IsEarly status.ReadFault = ⊥
 IsEarly status.WriteFault = ⊥
 IsEarly status.TooLong = ⊥
 IsEarly status.OutOfMemory = ⊤
+IsEarly status.DiskFault = ⊥
+IsEarly (status.Damage kind place) = ⊥
 IsEarly status.CutShort = ⊥
 IsEarly status.BadLength = ⊥
 

@@ -1,6 +1,7 @@
 //! A server through which the compilers of one build write type records and names.
 #![tactic(auto)]
 
+mod check;
 mod plan;
 mod run;
 mod status;
@@ -8,11 +9,13 @@ mod status;
 mod tests;
 mod word;
 
+use crate::plan::{Plan, plan_of};
 use crate::run::run;
 use crate::status::Status;
 use crate::word::Word;
-use srv_edge::{StdIn, StdOut};
+use srv_edge::{FileDevice, StdIn, StdOut};
 use std::alloc::Global;
+use std::fs::File;
 use std::process::ExitCode;
 use std::rt::Env;
 use std::{env, io};
@@ -33,11 +36,33 @@ fn words_of<R: Env + Alloc<A = Global>>(rt: &R) -> Result<Vec<Word>, Status> {
     Ok(words)
 }
 
+// The file that the words name, opened for reading; or one that fails at every call, where they name none, or one that is
+// a folder or cannot be opened.
+fn device_of(rt: &HostRuntime, words: &[Word]) -> FileDevice<File> {
+    let Ok(Plan::Check { path }) = plan_of(rt.alloc(), words) else {
+        return FileDevice::absent();
+    };
+    match File::open(rt, path.as_str()) {
+        Ok(file) if !is_folder(&file) => FileDevice::new(file),
+        _ => FileDevice::absent(),
+    }
+}
+
+fn is_folder(file: &File) -> bool {
+    match file.metadata() {
+        Ok(metadata) => metadata.is_dir(),
+        Err(_) => false,
+    }
+}
+
 fn main(rt: HostRuntime) -> ExitCode {
     let mut source = StdIn::new(rt.stdin());
     let mut sink = StdOut::new(rt.stdout());
     let status = match words_of(&rt) {
-        Ok(words) => run(rt.alloc(), &words, &mut source, &mut sink),
+        Ok(words) => {
+            let device = device_of(&rt, &words);
+            run(rt.alloc(), &words, &mut source, &mut sink, device).0
+        }
         Err(status) => status,
     };
     if status != Status::Ok {

@@ -1,13 +1,14 @@
 ghost use Rattle.std.specs.Prelude.{◌≡◌};
 ghost use Rattle.mspdbsrv.specs.Run.{status_of};
 
+use msf_image::DamageKind;
 use srv_edge::SessionEnd;
 use std::fmt;
 
 /// How a run of the program ended.
 #[derive(Clone, Copy, Debug, PartialEq, Eq)]
 pub enum Status {
-    /// The input was read to its end or to a Bye.
+    /// The input was read to its end or to a Bye, or the text was written whole.
     Ok,
     /// The words are no form of the program.
     Usage,
@@ -15,6 +16,10 @@ pub enum Status {
     ReadFault,
     /// The sink failed.
     WriteFault,
+    /// The device failed.
+    DiskFault,
+    /// The file fails a test: which, and where.
+    Damage { kind: DamageKind, place: u64 },
     /// The input has more than 2^32 bytes.
     TooLong,
     OutOfMemory,
@@ -32,6 +37,8 @@ impl Status {
             Status::Usage => 2,
             Status::ReadFault => 3,
             Status::WriteFault => 4,
+            Status::DiskFault => 5,
+            Status::Damage { .. } => 6,
             Status::TooLong => 7,
             Status::OutOfMemory => 8,
             Status::CutShort => 9,
@@ -42,16 +49,18 @@ impl Status {
 
 impl fmt::Display for Status {
     fn fmt<W: fmt::Write>(&self, f: &mut fmt::Formatter<W>) -> fmt::Result {
-        f.write_str(match self {
-            Status::Ok => "ok",
-            Status::Usage => "usage",
-            Status::ReadFault => "read fault",
-            Status::WriteFault => "write fault",
-            Status::TooLong => "too long",
-            Status::OutOfMemory => "out of memory",
-            Status::CutShort => "cut short",
-            Status::BadLength => "bad length",
-        })
+        match self {
+            Status::Ok => f.write_str("ok"),
+            Status::Usage => f.write_str("usage"),
+            Status::ReadFault => f.write_str("read fault"),
+            Status::WriteFault => f.write_str("write fault"),
+            Status::DiskFault => f.write_str("disk fault"),
+            Status::Damage { kind, place } => write!(f, "damage {kind} {place}"),
+            Status::TooLong => f.write_str("too long"),
+            Status::OutOfMemory => f.write_str("out of memory"),
+            Status::CutShort => f.write_str("cut short"),
+            Status::BadLength => f.write_str("bad length"),
+        }
     }
 }
 
