@@ -30,7 +30,7 @@ kind_of (Began number) = 10
 kind_of (Ended number acknowledged) = 11
 kind_of (Underway number) = 12
 
--- bits 32 to 47: the table space or the limit met, with the table added to in bits 34 and 35; or whether
+-- bits 32 to 47: the table of the missing index or the limit met, with the table added to in bits 34 and 35; or whether
 -- a commit was acknowledged
 abbrev pub middle_of : Deed → ℕ
 middle_of (Added table at) = 0
