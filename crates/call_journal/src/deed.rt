@@ -21,9 +21,15 @@ pub enum Limit {
 #[derive(Clone, Copy, Debug, PartialEq, Eq)]
 pub enum Deed {
     /// An add was answered with an index or an offset.
-    Added { table: TableKind, at: u32 },
+    Added {
+        table: TableKind,
+        at: u32,
+    },
     /// A get asked for an index or an offset.
-    Asked { table: TableKind, at: u32 },
+    Asked {
+        table: TableKind,
+        at: u32,
+    },
     Counted,
     /// An add was refused, since the record names an index at which nothing stands.
     NotGiven {
@@ -38,9 +44,16 @@ pub enum Deed {
         table: TableKind,
     },
     /// A commit began.
-    Began { number: u32 },
+    Began {
+        number: u32,
+    },
     /// A commit ended, acknowledged or faulted.
-    Ended { number: u32, acknowledged: bool },
+    Ended {
+        number: u32,
+        acknowledged: bool,
+    },
     /// A commit was refused, since this one was under way.
-    Underway { number: u32 },
+    Underway {
+        number: u32,
+    },
 }
