@@ -1,0 +1,4 @@
+mod Growing
+mod Missing
+mod Records
+mod Strings
