@@ -2,3 +2,4 @@ mod Growing
 mod Missing
 mod Records
 mod Strings
+mod Answered
