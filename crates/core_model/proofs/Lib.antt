@@ -3,3 +3,4 @@ mod Missing
 mod Records
 mod Strings
 mod Answered
+mod Sound
