@@ -4,3 +4,4 @@ mod Records
 mod Strings
 mod Answered
 mod Sound
+mod Filing
