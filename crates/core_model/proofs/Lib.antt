@@ -5,3 +5,4 @@ mod Strings
 mod Answered
 mod Sound
 mod Filing
+mod Allowed
