@@ -6,3 +6,5 @@ mod Answered
 mod Sound
 mod Filing
 mod Allowed
+mod Holding
+mod Events
