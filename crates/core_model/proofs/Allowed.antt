@@ -24,17 +24,24 @@ abbrev pub IsNoOther : ℕ → Entry → Type 0
 IsNoOther number e = (m : ℕ) → deed_of e.word ≡ Some (Ended m true) → m ≡ number
 
 -- a cut stays allowed until another commit is acknowledged
+pub began_more : (b : Basis) (h : List Entry) (c : Cut) (e : Entry) → IsNoOther c.number e → BeganAt b h c → BeganAt b (h ++ e ∷ []) c
+began_more b h c e other p = record {
+  before = p.before;
+  began = p.began;
+  rest = p.rest ++ e ∷ [];
+  there = ap (λ z. z ++ e ∷ []) p.there ∙ append_assoc p.before (p.began ∷ p.rest) (e ∷ []);
+  deed = p.deed;
+  tables = p.tables;
+  newest = All-push (IsNoOther c.number) p.rest e p.newest other;
+}
+
 pub allowed_more : (b : Basis) (h : List Entry) (c : Cut) (e : Entry) → IsNoOther c.number e → IsAllowed b h c → IsAllowed b (h ++ e ∷ []) c
 allowed_more b h c e other (inl p) = inl (p.0, All-push (IsNoOther c.number) h e p.1 other)
-allowed_more b h c e other (inr p) = inr (record {
-  before = p.before; began = p.began; rest = p.rest ++ e ∷ [];
-  there = ap (λ z. z ++ e ∷ []) p.there ∙ append_assoc p.before (p.began ∷ p.rest) (e ∷ []);
-  deed = p.deed; tables = p.tables; newest = All-push (IsNoOther c.number) p.rest e p.newest other
-})
+allowed_more b h c e other (inr p) = inr (began_more b h c e other p)
 
--- the cut of a commit is allowed once it has begun
-pub allowed_begun : (b : Basis) (h : List Entry) (number : ℕ) (e : Entry) → deed_of e.word ≡ Some (Began number) → IsAllowed b (h ++ e ∷ []) (cut_at b h number)
-allowed_begun b h number e is = inr (record { before = h; began = e; rest = []; there = refl; deed = is; tables = refl; newest = All-nil (IsNoOther number) })
+-- the cut of a commit is that of its first entry
+pub began_here : (b : Basis) (h : List Entry) (number : ℕ) (e : Entry) → deed_of e.word ≡ Some (Began number) → BeganAt b (h ++ e ∷ []) (cut_at b h number)
+began_here b h number e is = record { before = h; began = e; rest = []; there = refl; deed = is; tables = refl; newest = All-nil (IsNoOther number) }
 
 pub allowed_opened : (b : Basis) → IsAllowed b [] (opened b)
 allowed_opened b = inl (refl, All-nil (IsNoOther (age_of b)))
@@ -65,8 +72,11 @@ opens_cut b c others w = ap (λ (x : Tables). record { number = c.number; tables
 
 pub opens_start : (b : Basis) (c : Cut) (others : List ℕ) → IsStart b → IsCut b c → IsStart (basis_of b c others)
 opens_start b c others start k = record {
-  age = k.number; few_records = start.few_records; few_bytes = start.few_bytes; few_name_bytes = start.few_name_bytes;
+  age = k.number;
+  few_records = start.few_records;
+  few_bytes = start.few_bytes;
+  few_name_bytes = start.few_name_bytes;
   types = rw (← k.within.types) k.within.few_types;
   items = rw (← k.within.items) k.within.few_items;
-  names = let e = ap (λ n. n.max_bytes) k.within.names in omega (arith, k.within.few_names)
+  names = let e = ap (λ n. n.max_bytes) k.within.names in omega (arith, k.within.few_names);
 }

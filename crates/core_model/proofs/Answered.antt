@@ -111,6 +111,6 @@ within_added b x Names at name a w =
     let k : strings.answer_to_add x.names name ≡ Ok at = name_is_taken x.names name at a.1 in
     let e : (string_lemmas.grown x.names at name).max_bytes ≡ x.names.max_bytes = go (at == strings.bytes_of x.names.names) in
     rw (added_names x at name) (record { types = w.types; items = w.items; names = names_kept b x.names at name w.names; few_types = w.few_types; few_items = w.few_items; few_names = omega (arith, string_lemmas.within_grown x.names name at k w.few_names) }) where
-  go : (c : Bool) → (cond c (string_lemmas.with_name x.names name) x.names).max_bytes ≡ x.names.max_bytes
-  go true = refl
-  go false = refl
+      go : (c : Bool) → (cond c (string_lemmas.with_name x.names name) x.names).max_bytes ≡ x.names.max_bytes
+      go true = refl
+      go false = refl

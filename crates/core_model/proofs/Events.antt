@@ -13,12 +13,12 @@ use Rattle.core_model.specs.declared.call.Call.{Call}
 use Rattle.core_model.specs.Calls.{answer, is_call}
 use Rattle.core_model.specs.History.{DeedFits, Fits, IsStart, Standing, after_deed, after_entry, standing}
 use Rattle.core_model.specs.Cuts.{Cut, IsAllowed, opened}
-use Rattle.core_model.specs.World.{Commit, DeviceCall, Event, File, Phase, Progress, World, basis_of, begun, called, ended, ended_in, entry_of, entry_of_call, filed, filed_or_looked, first_phase, is_pass, left, looked, number_now, opened_world, progress, progressed, refused_commit, run, step, step_from, steps, tables_now, worked, world_after}
+use Rattle.core_model.specs.World.{Commit, DeviceCall, Event, File, MayLeave, Phase, Progress, World, basis_of, begun, called, ended, ended_in, entry_of, entry_of_call, filed, filed_or_looked, first_phase, is_pass, left, looked, number_now, opened_world, progress, progressed, refused_commit, run, step, step_from, steps, tables_now, worked, world_after}
 use Rattle.core_model.specs.World.{Which, settled, doubt, older, pending, resolving, resolving_sync, writing, switching, switching_sync, done, failed, calls, asks_commit, begins, calls_device, ends, dies, crashes, reopens}
-use Rattle.core_model.proofs.Allowed.{IsNoOther, allowed_begun, allowed_more, allowed_opened, is_cut, opens_start}
+use Rattle.core_model.proofs.Allowed.{IsNoOther, began_here, allowed_more, allowed_opened, is_cut, opens_start}
 use Rattle.core_model.proofs.Filing.{IsCallEntry, call_fits, quiet_keeps, quiet_no_end}
 use Rattle.core_model.proofs.Growing.{legal_nothing, standing_more}
-use Rattle.core_model.proofs.Holding.{Agrees, IsInformed, IsKept, IsProgress, IsSafe, IsUnderWay, agrees_more, is_progress, kept_filed, kept_looked, safe_more}
+use Rattle.core_model.proofs.Holding.{Agrees, IsInformed, IsKept, IsProgress, IsSafe, IsUnderWay, StandsIn, agrees_more, is_progress, kept_filed, kept_looked, safe_more}
 use Rattle.core_model.proofs.Sound.{IsOf, IsSound, after_of, fits_of, is_of, sound_standing}
 
 pub record Holds (w : World) : Type 0 where
@@ -55,7 +55,7 @@ holds_filed w c e up k h =
       kept = kept_filed w.basis w.history w.views c e k.is.caller_is (fits_of s c k.deed e k.is k.fits) h.kept;
       commit = agrees_more w.basis w.history e w.commit w.file no_end same h.commit;
       file = safe_more w.basis w.history e w.file no_end h.file;
-      crash = λ d is. not_crashed w (w.history ++ e ∷ []) d up is
+      crash = λ d is. not_crashed w (w.history ++ e ∷ []) d up is;
     }
 
 holds_called : (w : World) (c : ℕ) (call : Call) → w.crash ≡ None → c < 255 → is_call call ≡ true → Holds w → Holds (called w c call)
@@ -69,7 +69,7 @@ under_way : (w : World) (k : Commit) → w.commit ≡ Some k → Holds w → IsU
 under_way w k is h = subst (λ o. Agrees w.basis w.history o w.file) is h.commit
 
 small_cut : (w : World) (k : Commit) → Holds w → IsUnderWay w.basis w.history k w.file → k.cut.number < 2 ^ 32
-small_cut w k h u = (is_cut w.basis w.history k.cut h.start h.kept.legal u.cut).number
+small_cut w k h u = (is_cut w.basis w.history k.cut h.start h.kept.legal (inr u.cut)).number
 
 holds_refused : (w : World) (c : ℕ) (o : Option Commit) → w.crash ≡ None → c < 255 → w.commit ≡ o → Holds w → Holds (refused_commit w c o)
 holds_refused w c None up few is h = h
@@ -90,6 +90,10 @@ first_not_done : (f : File) → first_phase f ≡ done → ⊥
 first_not_done (settled x) e = absurd (cc)
 first_not_done (doubt x p) e = absurd (cc)
 
+first_stands : (f : File) → StandsIn (first_phase f) f
+first_stands (settled x) = refl
+first_stands (doubt x p) = tt
+
 holds_begun : (w : World) (c : ℕ) → w.crash ≡ None → c < 255 → w.commit ≡ None → number_now w < 2 ^ 32 - 1 → Holds w → Holds (begun w c)
 holds_begun w c up few idle below h =
     let n = number_now w + 1 in
@@ -103,23 +107,25 @@ holds_begun w c up few idle below h =
       commit = record {
         few = few;
         shown = ap (λ (z : Standing). z.under_way) (standing_by w c (Began n) (omega arith) (omega arith));
-        cut = allowed_begun w.basis w.history n e o.deed_is;
-        finished = λ d. absurd (first_not_done w.file d)
+        cut = began_here w.basis w.history n e o.deed_is;
+        stands = first_stands w.file;
+        finished = λ d. absurd (first_not_done w.file d);
       };
       file = safe_more w.basis w.history e w.file no_end h.file;
-      crash = λ d is. not_crashed w (w.history ++ e ∷ []) d up is
+      crash = λ d is. not_crashed w (w.history ++ e ∷ []) d up is;
     }
 
 holds_progressed : (w : World) (k : Commit) (call : DeviceCall) (ok : Bool) (o : Option Progress) → progress k.cut w.file k.phase call ok ≡ o → w.commit ≡ Some k → Holds w → Holds (progressed w k o)
 holds_progressed w k call ok None eq is h = h
 holds_progressed w k call ok (Some p) eq is h =
     let u : IsUnderWay w.basis w.history k w.file = under_way w k is h in
-    let q : IsProgress k.cut w.file p = is_progress k.cut w.file k.phase call ok p eq in
+    let q : IsProgress k.cut w.file call ok p = is_progress k.cut w.file k.phase call ok p u.stands eq in
     record {
-      start = h.start; kept = h.kept;
-      commit = record { few = u.few; shown = u.shown; cut = u.cut; finished = q.finished };
-      file = λ which c held. ⊎_elim (λ (new : c ≡ k.cut). subst (IsAllowed w.basis w.history) (sym new) u.cut) (λ (old : (other : Which) × (left w.file other ≡ Some c)). h.file old.0 c old.1) (q.holds which c held);
-      crash = h.crash
+      start = h.start;
+      kept = h.kept;
+      commit = record { few = u.few; shown = u.shown; cut = u.cut; stands = q.stands; finished = q.finished };
+      file = λ which c held. ⊎_elim (λ (new : c ≡ k.cut). subst (IsAllowed w.basis w.history) (sym new) (inr u.cut)) (λ (old : MayLeave w.file c). h.file old.0 c old.1) (q.holds which c held);
+      crash = h.crash;
     }
 
 holds_worked : (w : World) (o : Option Commit) (call : DeviceCall) (ok : Bool) → w.commit ≡ o → Holds w → Holds (worked w o call ok)
@@ -134,23 +140,27 @@ holds_end w k ok up u safe h = record {
   kept = kept_by w k.caller (Ended k.cut.number ok) (omega (arith, u.few)) (small_cut w k h u) (refl, u.shown) h;
   commit = ap (λ (z : Standing). z.under_way) (standing_by w k.caller (Ended k.cut.number ok) (omega (arith, u.few)) (small_cut w k h u));
   file = safe;
-  crash = λ d is. not_crashed w (w.history ++ entry_of k.caller (Ended k.cut.number ok) [] ∷ []) d up is
+  crash = λ d is. not_crashed w (w.history ++ entry_of k.caller (Ended k.cut.number ok) [] ∷ []) d up is;
 }
 
 holds_ended_in : (w : World) (k : Commit) (phase : Phase) → w.crash ≡ None → k.phase ≡ phase → IsUnderWay w.basis w.history k w.file → Holds w → Holds (ended_in w k phase)
 holds_ended_in w k done up at u h = holds_end w k true up u (subst (IsSafe w.basis behind) (sym (u.finished at)) safe) h where
   e : Entry
   e = entry_of k.caller (Ended k.cut.number true) []
+
   behind : List Entry
   behind = w.history ++ e ∷ []
+
   only : IsNoOther k.cut.number e
   only m is = let d : Some (Ended k.cut.number true) ≡ Some (Ended m true) = sym (is_of k.caller (Ended k.cut.number true) [] (omega (arith, u.few)) (small_cut w k h u)).deed_is ∙ is in cc
+
   safe : IsSafe w.basis behind (settled k.cut)
-  safe older c is = subst (IsAllowed w.basis behind) (same_Some k.cut c is) (allowed_more w.basis w.history k.cut e only u.cut)
+  safe older c is = subst (IsAllowed w.basis behind) (same_Some k.cut c is) (allowed_more w.basis w.history k.cut e only (inr u.cut))
   safe pending c is = absurd (cc)
 holds_ended_in w k failed up at u h = holds_end w k false up u (safe_more w.basis w.history e w.file not_one h.file) h where
   e : Entry
   e = entry_of k.caller (Ended k.cut.number false) []
+
   not_one : (m : ℕ) → deed_of e.word ≡ Some (Ended m true) → ⊥
   not_one m is = let d : Some (Ended k.cut.number false) ≡ Some (Ended m true) = sym (is_of k.caller (Ended k.cut.number false) [] (omega (arith, u.few)) (small_cut w k h u)).deed_is ∙ is in let f : false ≡ true = cc in cc
 holds_ended_in w k resolving up at u h = h

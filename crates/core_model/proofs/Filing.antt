@@ -90,6 +90,7 @@ record_fits : (s : Standing) (c : ℕ) (space : Space) (t : records.Table) (tabl
 record_fits s c space t table r e few bytes k eq = go (leaf_of space r) (missing space r (type_count s.tables) (item_count s.tables)) (records.answer_to_add t r) refl refl refl refl eq where
   long : (l : Leaf) → leaf_of space r ≡ Ok l → length r < 2 ^ 32
   long l p = let room = leaf_room space r (ok_is (leaf_of space r) l p) in omega (arith, room.longest)
+
   go : (l : Result Leaf malformed.Malformed) (m : Option (Space × ℕ)) (a : Result ℕ AddFault) → leaf_of space r ≡ l → missing space r (type_count s.tables) (item_count s.tables) ≡ m → records.answer_to_add t r ≡ a →
       answer_to_record space t (type_count s.tables) (item_count s.tables) r ≡ answer_to_bytes l (answer_to_leaf m (answer_of_add a t.max_records)) →
       entry_of_add c table r (index_answer (answer_to_bytes l (answer_to_leaf m (answer_of_add a t.max_records)))) ≡ Some e → IsCallEntry s c e

@@ -62,6 +62,7 @@ add_cases t r at e = go (index_of t r) refl e where
   last false b p q new e = absurd (grind arith)
   last true true p q new e = absurd (grind arith)
   last true false p q new e = record { new = new; end = grind arith; few = ltb-true (length t.records) t.max_records p; short = ltb-false t.max_bytes (bytes_in t + length r) q }
+
   go : (o : Option ℕ) → index_of t r ≡ o → unwrap_or (option_map Ok o) (answer_to_new t r) ≡ Ok at → (index_of t r ≡ Some at) ⊎ IsLast t r at
   go (Some i) is e = let same : i ≡ at = grind arith in inl (is ∙ ap Some same)
   go None is e = inr (last (ltb (length t.records) t.max_records) (ltb t.max_bytes (bytes_in t + length r)) refl refl is e)
@@ -88,6 +89,7 @@ pub after_answered : (t : Table) (r : List ℕ) (at : ℕ) → answer_to_add t r
 after_answered t r at e = ⊎_elim (λ (o : index_of t r ≡ Some at). after_old o ∙ sym (grown_old t r at o)) (λ (l : IsLast t r at). after_last l ∙ sym (grown_last t r at l)) (add_cases t r at e) where
   after_old : index_of t r ≡ Some at → after_add t r ≡ t
   after_old o = ap (λ i. cond (is_none i && is_ok (answer_to_new t r)) (appended t r) t) o
+
   after_last : IsLast t r at → after_add t r ≡ appended t r
   after_last l = grind (arith, l.new, e)
 
@@ -110,6 +112,7 @@ pub index_stays : (t : Table) (s r : List ℕ) (at other : ℕ) → index_of t r
 index_stays t s r at other e = go (other == index_at (length t.records)) where
   kept : index_of (appended t s) r ≡ Some at
   kept = let p = same_index (place_of t.records r) at e in ap (option_map index_at) (place_stays t.records s r p.0 p.1) ∙ ap Some (sym p.2)
+
   go : (b : Bool) → index_of (cond b (appended t s) t) r ≡ Some at
   go true = kept
   go false = e
@@ -120,6 +123,7 @@ index_after t r at e = ⊎_elim (λ (o : index_of t r ≡ Some at). index_stays 
   no_place : (o : Option ℕ) → option_map index_at o ≡ None → o ≡ None
   no_place None n = refl
   no_place (Some p) n = absurd (grind arith)
+
   new : IsLast t r at → index_of (appended t r) r ≡ Some at
   new l = ap (option_map index_at) (place_new t.records r ((bytes_eq-Decides r r).1 refl) (no_place (place_of t.records r) l.new)) ∙ ap Some (sym l.end)
 

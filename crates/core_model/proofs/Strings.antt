@@ -61,6 +61,7 @@ add_cases t name at e = go (offset_of t name) refl e where
   last : (a : Bool) → ltb t.max_bytes (needed_for t name) ≡ a → offset_of t name ≡ None → cond a (Err (Full (needed_for t name))) (Ok (bytes_of t.names)) ≡ Ok at → IsLast t name at
   last true p new e = absurd (grind arith)
   last false p new e = record { new = new; end = grind arith; short = ltb-false t.max_bytes (needed_for t name) p }
+
   go : (o : Option ℕ) → offset_of t name ≡ o → unwrap_or (option_map Ok o) (answer_to_new t name) ≡ Ok at → (offset_of t name ≡ Some at) ⊎ IsLast t name at
   go (Some i) is e = let same : i ≡ at = grind arith in inl (is ∙ ap Some same)
   go None is e = inr (last (ltb t.max_bytes (needed_for t name)) refl is e)
@@ -85,6 +86,7 @@ pub after_answered : (t : Names) (name : List ℕ) (at : ℕ) → answer_to_add 
 after_answered t name at e = ⊎_elim (λ (o : offset_of t name ≡ Some at). after_old o ∙ sym (grown_old t name at o)) (λ (l : IsLast t name at). after_last l ∙ sym (grown_last t name at l)) (add_cases t name at e) where
   after_old : offset_of t name ≡ Some at → after_add t name ≡ t
   after_old o = ap (λ i. cond (is_none i && is_ok (answer_to_new t name)) (with_name t name) t) o
+
   after_last : IsLast t name at → after_add t name ≡ with_name t name
   after_last l = grind (arith, l.new, e)
 
@@ -107,6 +109,7 @@ offset_kept t other name at place e = go (place == bytes_of t.names) where
   kept : (name : List ℕ) → offset_of t name ≡ Some at → offset_of (with_name t other) name ≡ Some at
   kept [] e = e
   kept (b ∷ name) e = offset_stays 1 t.names other (b ∷ name) at e
+
   go : (b : Bool) → offset_of (cond b (with_name t other) t) name ≡ Some at
   go true = kept name e
   go false = e

@@ -3,5 +3,7 @@
 #![tactic(auto)]
 
 mod call;
+mod laws;
 
 pub use crate::call::{Call, Outcome, Verdict};
+pub use crate::laws::world;
