@@ -35,7 +35,7 @@ pub record IsKept (b : Basis) (h : List Entry) (views : ℕ → View) : Type 0 w
   pub legal : IsLegal b h
   pub each : (c : ℕ) → IsInformed h c (views c)
 
-changed_view : (P : ℕ → View → Type 0) (views : ℕ → View) (c : ℕ) (v : View) → P c v → ((d : ℕ) → d ≢ c → P d (views d)) → (d : ℕ) → P d (with_view views c v d)
+pub changed_view : (P : ℕ → View → Type 0) (views : ℕ → View) (c : ℕ) (v : View) → P c v → ((d : ℕ) → d ≢ c → P d (views d)) → (d : ℕ) → P d (with_view views c v d)
 changed_view P views c v here others d = go (eqb d c) refl where
   go : (t : Bool) → eqb d c ≡ t → P d (cond t v (views d))
   go true e = subst (λ z. P z v) (sym (eqb-true d c e)) here

@@ -7,4 +7,5 @@ mod Sound
 mod Filing
 mod Allowed
 mod Holding
-mod Events
+mod Running
+mod Later

@@ -1,4 +1,4 @@
-use Rattle.core_model.proofs.Events.{holds_always}
+use Rattle.core_model.proofs.Running.{holds_always}
 use Rattle.core_model.proofs.laws.world.Goals as goal
 
 pub returns-clause-legal : goal.returns-clause-legal

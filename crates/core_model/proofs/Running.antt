@@ -15,7 +15,7 @@ use Rattle.core_model.specs.History.{DeedFits, Fits, IsStart, Standing, after_de
 use Rattle.core_model.specs.Cuts.{Cut, IsAllowed, opened}
 use Rattle.core_model.specs.World.{Commit, DeviceCall, Event, File, MayLeave, Phase, Progress, World, basis_of, begun, called, ended, ended_in, entry_of, entry_of_call, filed, filed_or_looked, first_phase, is_pass, left, looked, number_now, opened_world, progress, progressed, refused_commit, run, step, step_from, steps, tables_now, worked, world_after}
 use Rattle.core_model.specs.World.{Which, settled, doubt, older, pending, resolving, resolving_sync, writing, switching, switching_sync, done, failed, calls, asks_commit, begins, calls_device, ends, dies, crashes, reopens}
-use Rattle.core_model.proofs.Allowed.{IsNoOther, began_here, allowed_more, allowed_opened, is_cut, opens_start}
+use Rattle.core_model.proofs.Allowed.{IsCut, IsNoOther, began_here, allowed_more, allowed_opened, is_cut, opens_cut, opens_start}
 use Rattle.core_model.proofs.Filing.{IsCallEntry, call_fits, quiet_keeps, quiet_no_end}
 use Rattle.core_model.proofs.Growing.{legal_nothing, standing_more}
 use Rattle.core_model.proofs.Holding.{Agrees, IsInformed, IsKept, IsProgress, IsSafe, IsUnderWay, StandsIn, agrees_more, is_progress, kept_filed, kept_looked, safe_more}
@@ -65,7 +65,7 @@ holds_called w c call up few is h = go (entry_of_call c call (answer (tables_now
   go (Some e) eq = holds_filed w c e up (call_fits w.basis (standing w.basis w.history) c call e (omega arith) is h.start (sound_now w h) eq) h
 
 -- the commit under way, as its fields say
-under_way : (w : World) (k : Commit) → w.commit ≡ Some k → Holds w → IsUnderWay w.basis w.history k w.file
+pub under_way : (w : World) (k : Commit) → w.commit ≡ Some k → Holds w → IsUnderWay w.basis w.history k w.file
 under_way w k is h = subst (λ o. Agrees w.basis w.history o w.file) is h.commit
 
 small_cut : (w : World) (k : Commit) → Holds w → IsUnderWay w.basis w.history k w.file → k.cut.number < 2 ^ 32
@@ -215,3 +215,20 @@ holds_steps w (event ∷ events) h = holds_steps (step w event) events (holds_st
 -- what holds after any events
 pub holds_always : (b : Basis) (events : List Event) → IsStart b → Holds (world_after b events)
 holds_always b events start = holds_steps (opened_world b) events (holds_opened b start)
+
+-- the opening after a crash
+
+cut_of_crash : (w : World) (c : Cut) → w.crash ≡ Some c → Holds w → IsCut w.basis c
+cut_of_crash w c is h = is_cut w.basis w.history c h.start h.kept.legal (h.crash c is)
+
+after_crash : (w : World) (c : Cut) (others : List ℕ) → w.crash ≡ Some c → step w (reopens others) ≡ opened_world (basis_of w.basis c others)
+after_crash w c others is = ap (λ o. step_from o w (reopens others)) is
+
+pub reopened_cut : (w : World) (c : Cut) (others : List ℕ) → w.crash ≡ Some c → Holds w → opened (step w (reopens others)).basis ≡ c
+reopened_cut w c others is h = ap (λ (v : World). opened v.basis) (after_crash w c others is) ∙ opens_cut w.basis c others (cut_of_crash w c is h).within
+
+pub reopened_file : (w : World) (c : Cut) (others : List ℕ) → w.crash ≡ Some c → Holds w → (step w (reopens others)).file ≡ settled c
+reopened_file w c others is h = ap (λ (v : World). v.file) (after_crash w c others is) ∙ ap settled (opens_cut w.basis c others (cut_of_crash w c is h).within)
+
+pub reopened_start : (w : World) (c : Cut) (others : List ℕ) → w.crash ≡ Some c → Holds w → IsStart (step w (reopens others)).basis
+reopened_start w c others is h = subst (λ (v : World). IsStart v.basis) (sym (after_crash w c others is)) (opens_start w.basis c others h.start (cut_of_crash w c is h))
