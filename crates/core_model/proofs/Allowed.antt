@@ -1,19 +1,17 @@
 -- The cuts that a crash may leave: how they stay allowed, and what each of them is.
-use Rattle.std.proofs.Common.{◌≡◌, ◌≢◌, ◌≤◌, ◌<◌, ◌^◌, ◌+◌, ℕ, true, List, [], ◌∷◌, ◌++◌, length, get_or, Option, Some, None, ◌⊎◌, inl, inr, ⊎_elim, refl, sym, ap, ◌∙◌, subst, arith}
-use Rattle.std.specs.Prelude.{All}
+use Rattle.std.proofs.Common.{◌≡◌, ◌<◌, ◌^◌, ℕ, true, List, [], ◌∷◌, ◌++◌, Some, inl, inr, refl, sym, ap, ◌∙◌, subst, arith}
 use Rattle.std.proofs.lemmas.List.{append_assoc}
 use Rattle.std.proofs.lemmas.List.Elements.{All-nil, All-push}
 use Rattle.turnstile.specs.declared.history.Entry.{Entry}
 use Rattle.turnstile.specs.declared.history.Basis.{Basis}
-use Rattle.turnstile.specs.Histories.{Begins}
 use Rattle.call_journal.specs.declared.deed.Deed.TheVariants.{Began, Ended}
 use Rattle.call_journal.specs.Words.{deed_of}
 use Rattle.call_journal.proofs.Decoding.{is_deed}
 use Rattle.record_table.specs.Table as records
 use Rattle.names_table.specs.Names as strings
 use Rattle.core_model.specs.Tables.{Tables}
-use Rattle.core_model.specs.History.{IsLegal, IsStart, after, age_of, most_name_bytes, names_version, opened_tables, standing, table_of}
-use Rattle.core_model.specs.Cuts.{AcknowledgesNoOther, BeganAt, Cut, IsAllowed, cut_at, opened}
+use Rattle.core_model.specs.History.{IsLegal, IsStart, age_of, opened_tables, table_of}
+use Rattle.core_model.specs.Cuts.{BeganAt, Cut, IsAllowed, cut_at, opened}
 use Rattle.core_model.specs.World.{basis_of}
 use Rattle.core_model.proofs.Answered.{IsWithin, names_of, within_opened}
 use Rattle.core_model.proofs.Growing.{legal_before}

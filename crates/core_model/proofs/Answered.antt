@@ -1,5 +1,5 @@
 -- Adds that were answered, and the tables that they leave.
-use Rattle.std.proofs.Common.{◌≡◌, ◌≢◌, ◌≤◌, ◌<◌, ◌^◌, ◌+◌, ◌==◌, ℕ, Bool, true, false, cond, List, [], ◌∷◌, ◌++◌, length, Option, Some, None, Result, Ok, Err, IsOk, refl, sym, ap, ◌∙◌, subst, arith}
+use Rattle.std.proofs.Common.{◌≡◌, ◌≤◌, ◌==◌, ℕ, Bool, true, false, cond, List, length, Option, Some, None, Result, Ok, Err, refl, ap, ◌∙◌, arith}
 use Rattle.std.specs.Prelude.{◌&&◌, is_ok, is_none}
 use Rattle.leaf_grammar.specs.declared.grammar.Space.{Space}
 use Rattle.leaf_grammar.specs.declared.grammar.Space.TheVariants as leaf
@@ -13,11 +13,10 @@ use Rattle.record_table.specs.Table as records
 use Rattle.names_table.specs.declared.fault.NameFault.{NameFault}
 use Rattle.names_table.specs.declared.fault.NameFault.TheVariants as name_fault
 use Rattle.names_table.specs.Names as strings
-use Rattle.srv_edge.specs.declared.failed.Refusal.{Refusal}
 use Rattle.turnstile.specs.declared.history.Basis.{Basis}
 use Rattle.call_journal.specs.declared.deed.TableKind.{TableKind}
 use Rattle.call_journal.specs.declared.deed.TableKind.TheVariants.{Types, Items, Names}
-use Rattle.core_model.specs.Tables.{Tables, answer_of_add, answer_of_name, answer_to_bytes, answer_to_leaf, answer_to_name, answer_to_record, comes_to_table, item_count, table_after, type_count}
+use Rattle.core_model.specs.Tables.{Tables, answer_of_add, answer_of_name, answer_to_bytes, answer_to_leaf, answer_to_name, answer_to_record, item_count, table_after, type_count}
 use Rattle.core_model.specs.History.{IsAnswered, IsStart, WithinLimits, most_name_bytes, names_version, opened_tables, table_of, with_added}
 use Rattle.core_model.proofs.Records as record_lemmas
 use Rattle.core_model.proofs.Strings as string_lemmas

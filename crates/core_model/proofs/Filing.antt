@@ -1,5 +1,5 @@
 -- The entry of a call fits where it is filed.
-use Rattle.std.proofs.Common.{◌≡◌, ◌≢◌, ◌≤◌, ◌<◌, ◌^◌, ◌+◌, ◌==◌, ℕ, zero, suc, Bool, true, false, cond, ltb, List, [], ◌∷◌, length, get_or, Option, Some, None, Result, Ok, Err, IsOk, refl, sym, ap, ◌∙◌, subst, arith}
+use Rattle.std.proofs.Common.{◌≡◌, ◌≢◌, ◌≤◌, ◌<◌, ◌^◌, ◌+◌, ◌==◌, ℕ, true, ltb, List, [], ◌∷◌, length, Option, Some, None, Result, Ok, Err, refl, sym, ap, subst, arith}
 use Rattle.std.specs.Prelude.{◌&&◌, not, All}
 use Rattle.std.specs.Bool.{⊤}
 use Rattle.std.proofs.lemmas.Bool.{and_parts, eqb-false, ltb-true, ltb-false, not-true}
@@ -31,9 +31,8 @@ use Rattle.core_model.specs.declared.call.Call.{Call}
 use Rattle.core_model.specs.declared.call.Call.TheVariants.{AddType, AddItem, AddName, GetType, GetItem, GetName, Counts}
 use Rattle.core_model.specs.Tables.{Tables, answer_of_add, answer_of_name, answer_to_bytes, answer_to_leaf, answer_to_name, answer_to_record, item_count, space_number, type_count}
 use Rattle.core_model.specs.Calls.{answer, are_bytes, has_no_nul, index_answer, is_call}
-use Rattle.core_model.specs.History.{DeedFits, IsAnswered, IsFull, IsStart, NamesNothing, PassesLimit, Standing, WithinLimits, after_deed, most_records}
-use Rattle.core_model.specs.World.{entry_of, entry_of_add, entry_of_call, limit_of_number, table_of_space}
-use Rattle.core_model.proofs.Answered.{IsWithin, is_taken, name_is_taken}
+use Rattle.core_model.specs.History.{DeedFits, IsAnswered, IsFull, IsStart, NamesNothing, PassesLimit, Standing, WithinLimits, after_deed}
+use Rattle.core_model.specs.World.{entry_of, entry_of_add, entry_of_call, table_of_space}
 use Rattle.core_model.proofs.Missing.{IsMissing, is_missing}
 use Rattle.core_model.proofs.Records as record_lemmas
 use Rattle.core_model.proofs.Sound.{IsOf, IsSound, is_of}

@@ -1,26 +1,20 @@
 -- What holds of the world after any events.
-use Rattle.std.proofs.Common.{◌≡◌, ◌≢◌, ◌≤◌, ◌<◌, ◌^◌, ◌+◌, ◌-◌, ◌==◌, ℕ, Bool, true, false, cond, eqb, ltb, List, [], ◌∷◌, ◌++◌, Option, Some, None, Result, Ok, Err, ◌⊎◌, inl, inr, ⊎_elim, refl, sym, ap, ◌∙◌, subst, arith}
-use Rattle.std.specs.Prelude.{◌&&◌, is_none}
+use Rattle.std.proofs.Common.{◌≡◌, ◌≢◌, ◌<◌, ℕ, Bool, true, false, cond, eqb, List, [], ◌∷◌, ◌++◌, Option, Some, None, ◌⊎◌, inl, inr, refl, sym, ap, ◌∙◌, subst}
 use Rattle.std.specs.Bool.{⊤}
-use Rattle.std.proofs.lemmas.Bool.{and_parts, eqb-true, eqb-false, ltb-true}
+use Rattle.std.proofs.lemmas.Bool.{eqb-true, eqb-false}
 use Rattle.std.proofs.lemmas.Option.{same_Some}
 use Rattle.turnstile.specs.declared.history.Entry.{Entry}
 use Rattle.turnstile.specs.declared.history.Basis.{Basis}
 use Rattle.turnstile.specs.Histories.{Begins, caller, calls_by}
 use Rattle.turnstile.proofs.Beginnings.{begins_more, begins_self, other_call, own_call}
-use Rattle.call_journal.specs.declared.deed.Deed.{Deed}
-use Rattle.call_journal.specs.declared.deed.Deed.TheVariants.{Began, Ended, Underway}
+use Rattle.call_journal.specs.declared.deed.Deed.TheVariants.{Ended}
 use Rattle.call_journal.specs.Words.{deed_of}
-use Rattle.core_model.specs.declared.call.Call.{Call}
-use Rattle.core_model.specs.Calls.{answer, is_call}
-use Rattle.core_model.specs.History.{DeedFits, Fits, IsLegal, IsStart, OpenCommit, Standing, after_entry, standing}
-use Rattle.core_model.specs.Cuts.{BeganAt, Cut, IsAllowed, cut_at, opened}
-use Rattle.core_model.specs.World.{Commit, DeviceCall, Event, File, MayLeave, Phase, Progress, View, Which, World, basis_of, begun, called, ended, ended_in, entry_of, entry_of_call, filed, filed_or_looked, first_phase, fresh, is_pass, left, looked, number_now, opened_world, progress, progressed, refused_commit, run, step, step_from, steps, sure, resolved, tables_now, with_view, worked, world_after}
-use Rattle.core_model.specs.World.{settled, doubt, older, pending, resolving, resolving_sync, writing, switching, switching_sync, done, failed, write, write_super, sync, calls, asks_commit, begins, calls_device, ends, dies, crashes, reopens}
-use Rattle.core_model.proofs.Allowed.{IsNoOther, allowed_more, began_more, allowed_opened, is_cut, opens_cut, opens_start}
-use Rattle.core_model.proofs.Filing.{IsCallEntry, call_fits, quiet_keeps, quiet_no_end}
-use Rattle.core_model.proofs.Growing.{legal_more, legal_nothing, standing_more}
-use Rattle.core_model.proofs.Sound.{IsOf, IsSound, after_of, fits_of, is_of, sound_standing}
+use Rattle.core_model.specs.History.{Fits, IsLegal, Standing, after_entry, standing}
+use Rattle.core_model.specs.Cuts.{BeganAt, Cut, IsAllowed}
+use Rattle.core_model.specs.World.{Commit, DeviceCall, File, MayLeave, Phase, Progress, View, Which, left, progress, sure, resolved, with_view}
+use Rattle.core_model.specs.World.{settled, doubt, older, pending, resolving, resolving_sync, writing, switching, switching_sync, done, failed, write, write_super, sync}
+use Rattle.core_model.proofs.Allowed.{allowed_more, began_more}
+use Rattle.core_model.proofs.Growing.{legal_more, standing_more}
 
 -- views
 

@@ -1,15 +1,14 @@
 -- What the callers have seen and what the file may hold, from one event to the next.
-use Rattle.std.proofs.Common.{◌≡◌, ◌≢◌, ◌-◌, ◌^◌, ◌==◌, ℕ, Bool, true, false, cond, ltb, List, [], ◌∷◌, ◌++◌, Option, Some, None, refl, sym, ap, ◌∙◌, subst}
+use Rattle.std.proofs.Common.{◌≡◌, ◌≢◌, ◌-◌, ◌^◌, ◌==◌, ℕ, Bool, true, false, cond, ltb, [], ◌∷◌, ◌++◌, Option, Some, None, refl, sym, subst}
 use Rattle.std.specs.Prelude.{◌&&◌, is_none}
 use Rattle.turnstile.specs.declared.history.Entry.{Entry}
 use Rattle.turnstile.specs.Histories.{Begins}
 use Rattle.turnstile.proofs.Beginnings.{begins_more, begins_self}
-use Rattle.core_model.specs.declared.call.Call.{Call}
 use Rattle.core_model.specs.Calls.{answer, is_call}
 use Rattle.core_model.specs.Cuts.{Cut}
-use Rattle.core_model.specs.World.{Commit, DeviceCall, Event, File, MayLeave, Phase, Progress, View, World, begun, called, ended, ended_in, entry_of_call, filed, filed_or_looked, is_pass, looked, number_now, progress, progressed, refused_commit, run, step, step_from, tables_now, worked}
+use Rattle.core_model.specs.World.{Commit, DeviceCall, Event, MayLeave, Phase, Progress, World, begun, called, ended, ended_in, entry_of_call, filed, filed_or_looked, is_pass, looked, number_now, progress, progressed, refused_commit, run, step, step_from, tables_now, worked}
 use Rattle.core_model.specs.World.{resolving, resolving_sync, writing, switching, switching_sync, done, failed, sync, calls, asks_commit, begins, calls_device, ends, dies, crashes, reopens}
-use Rattle.core_model.proofs.Holding.{IsProgress, IsUnderWay, changed_view, is_progress}
+use Rattle.core_model.proofs.Holding.{IsUnderWay, changed_view, is_progress}
 use Rattle.core_model.proofs.Running.{Holds, under_way}
 
 -- each caller has seen what it had seen, and maybe more; and the file is the same
@@ -23,13 +22,13 @@ later_self w = record { seen = λ c. begins_self (w.views c).seen; file = refl }
 later_looked : (w : World) (c : ℕ) → Holds w → IsLater w (looked w c)
 later_looked w c h = record {
   seen = changed_view (λ d v. Begins (w.views d).seen v.seen) w.views c (record { seen = w.history; mine = (w.views c).mine }) (h.kept.each c).seen (λ d other. begins_self (w.views d).seen);
-  file = refl
+  file = refl;
 }
 
 later_filed : (w : World) (c : ℕ) (e : Entry) → Holds w → IsLater w (filed w c e)
 later_filed w c e h = record {
   seen = changed_view (λ d v. Begins (w.views d).seen v.seen) w.views c (record { seen = w.history ++ e ∷ []; mine = (w.views c).mine ++ e ∷ [] }) (begins_more (w.views c).seen w.history e (h.kept.each c).seen) (λ d other. begins_self (w.views d).seen);
-  file = refl
+  file = refl;
 }
 
 later_called : (w : World) (c : ℕ) (o : Option Entry) → Holds w → IsLater w (filed_or_looked w c o)

@@ -9,3 +9,5 @@ mod Allowed
 mod Holding
 mod Running
 mod Later
+mod Replying
+mod Acknowledging

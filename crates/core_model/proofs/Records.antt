@@ -1,5 +1,5 @@
 -- One table of records: an add that was answered, and what it leaves.
-use Rattle.std.proofs.Common.{◌≡◌, ◌≢◌, ◌≤◌, ◌<◌, ◌^◌, ◌+◌, ◌-◌, ◌*◌, ◌==◌, ℕ, zero, suc, Bool, true, false, cond, ltb, List, [], ◌∷◌, ◌++◌, length, Option, Some, None, Result, Ok, Err, IsOk, ◌⊎◌, inl, inr, ⊎_elim, refl, sym, ap, ◌∙◌, subst, arith, length-append}
+use Rattle.std.proofs.Common.{◌≡◌, ◌≤◌, ◌<◌, ◌^◌, ◌+◌, ◌==◌, ℕ, Bool, true, false, cond, ltb, List, [], ◌∷◌, ◌++◌, length, Option, Some, None, Ok, Err, ◌⊎◌, inl, inr, ⊎_elim, refl, sym, ap, ◌∙◌, subst, arith, length-append}
 use Rattle.std.specs.Prelude.{◌&&◌, is_ok, is_none}
 use Rattle.std.specs.Option.{option_map, unwrap_or}
 use Rattle.std.specs.Str.{bytes_eq}
@@ -8,9 +8,8 @@ use Rattle.std.proofs.lemmas.List.{append-nil}
 use Rattle.std.proofs.lemmas.Slice.Eq.{bytes_eq-Decides}
 use Rattle.std.proofs.lemmas.Grind.{common_steps}
 use Rattle.srv_edge.specs.Records.{joined}
-use Rattle.record_table.specs.declared.fault.AddFault.{AddFault}
-use Rattle.record_table.specs.declared.fault.AddFault.TheVariants.{Records, Bytes, OutOfMemory}
-use Rattle.record_table.specs.Table.{Table, after_add, answer_to_add, answer_to_new, appended, appends, bytes_in, index_at, index_of, place_of}
+use Rattle.record_table.specs.declared.fault.AddFault.TheVariants.{Records, Bytes}
+use Rattle.record_table.specs.Table.{Table, after_add, answer_to_add, answer_to_new, appended, bytes_in, index_at, index_of, place_of}
 use Rattle.core_model.specs.History.{WithinLimits}
 
 -- places

@@ -1,5 +1,5 @@
 -- What holds of the world is kept by each event.
-use Rattle.std.proofs.Common.{◌≡◌, ◌≢◌, ◌≤◌, ◌<◌, ◌^◌, ◌+◌, ◌-◌, ◌==◌, ℕ, Bool, true, false, cond, eqb, ltb, List, [], ◌∷◌, ◌++◌, Option, Some, None, refl, sym, ap, ◌∙◌, subst, inl, inr, ⊎_elim, arith}
+use Rattle.std.proofs.Common.{◌≡◌, ◌<◌, ◌^◌, ◌+◌, ◌-◌, ◌==◌, ℕ, Bool, true, false, cond, ltb, List, [], ◌∷◌, ◌++◌, Option, Some, None, refl, sym, ap, ◌∙◌, subst, inr, ⊎_elim, arith}
 use Rattle.std.specs.Prelude.{◌&&◌, is_none}
 use Rattle.std.proofs.lemmas.Bool.{and_parts, ltb-true}
 use Rattle.std.proofs.lemmas.Option.{same_Some}
@@ -11,14 +11,14 @@ use Rattle.call_journal.specs.declared.deed.Deed.TheVariants.{Began, Ended, Unde
 use Rattle.call_journal.specs.Words.{IsDeed, deed_of}
 use Rattle.core_model.specs.declared.call.Call.{Call}
 use Rattle.core_model.specs.Calls.{answer, is_call}
-use Rattle.core_model.specs.History.{DeedFits, Fits, IsStart, Standing, after_deed, after_entry, standing}
+use Rattle.core_model.specs.History.{DeedFits, IsStart, Standing, after_deed, after_entry, standing}
 use Rattle.core_model.specs.Cuts.{Cut, IsAllowed, opened}
-use Rattle.core_model.specs.World.{Commit, DeviceCall, Event, File, MayLeave, Phase, Progress, World, basis_of, begun, called, ended, ended_in, entry_of, entry_of_call, filed, filed_or_looked, first_phase, is_pass, left, looked, number_now, opened_world, progress, progressed, refused_commit, run, step, step_from, steps, tables_now, worked, world_after}
-use Rattle.core_model.specs.World.{Which, settled, doubt, older, pending, resolving, resolving_sync, writing, switching, switching_sync, done, failed, calls, asks_commit, begins, calls_device, ends, dies, crashes, reopens}
+use Rattle.core_model.specs.World.{Commit, DeviceCall, Event, File, MayLeave, Phase, Progress, World, basis_of, begun, called, ended, ended_in, entry_of, entry_of_call, filed, filed_or_looked, first_phase, is_pass, looked, number_now, opened_world, progress, progressed, refused_commit, run, step, step_from, steps, tables_now, worked, world_after}
+use Rattle.core_model.specs.World.{settled, doubt, older, pending, resolving, resolving_sync, writing, switching, switching_sync, done, failed, calls, asks_commit, begins, calls_device, ends, dies, crashes, reopens}
 use Rattle.core_model.proofs.Allowed.{IsCut, IsNoOther, began_here, allowed_more, allowed_opened, is_cut, opens_cut, opens_start}
 use Rattle.core_model.proofs.Filing.{IsCallEntry, call_fits, quiet_keeps, quiet_no_end}
 use Rattle.core_model.proofs.Growing.{legal_nothing, standing_more}
-use Rattle.core_model.proofs.Holding.{Agrees, IsInformed, IsKept, IsProgress, IsSafe, IsUnderWay, StandsIn, agrees_more, is_progress, kept_filed, kept_looked, safe_more}
+use Rattle.core_model.proofs.Holding.{Agrees, IsKept, IsProgress, IsSafe, IsUnderWay, StandsIn, agrees_more, is_progress, kept_filed, kept_looked, safe_more}
 use Rattle.core_model.proofs.Sound.{IsOf, IsSound, after_of, fits_of, is_of, sound_standing}
 
 pub record Holds (w : World) : Type 0 where

@@ -1,17 +1,17 @@
 -- What holds at every place of a legal history: the tables are within their limits, and numbers rise.
-use Rattle.std.proofs.Common.{◌≡◌, ◌≢◌, ◌≤◌, ◌<◌, ◌^◌, ◌+◌, ℕ, List, [], ◌∷◌, ◌++◌, Option, Some, None, refl, sym, ap, ◌∙◌, subst, arith}
+use Rattle.std.proofs.Common.{◌≡◌, ◌≤◌, ◌<◌, ◌^◌, ℕ, List, [], ◌∷◌, ◌++◌, Option, Some, None, refl, sym, ap, ◌∙◌, subst, arith}
 use Rattle.std.proofs.lemmas.List.{append_assoc}
 use Rattle.std.proofs.lemmas.Option.{same_Some}
 use Rattle.turnstile.specs.declared.history.Entry.{Entry}
 use Rattle.turnstile.specs.declared.history.Basis.{Basis}
-use Rattle.turnstile.specs.Histories.{Begins, caller}
+use Rattle.turnstile.specs.Histories.{caller}
 use Rattle.call_journal.specs.declared.deed.Deed.{Deed}
 use Rattle.call_journal.specs.declared.deed.Deed.TheVariants.{Added, Asked, Counted, NotGiven, Full, Began, Ended, Underway}
 use Rattle.call_journal.specs.Words.{IsDeed, deed_of, word_of}
 use Rattle.call_journal.proofs.Decoding.{caller_of_word, deed_of_word, is_deed, small_word}
 use Rattle.core_model.specs.History.{DeedFits, Fits, IsLegal, IsStart, OpenCommit, Standing, after_deed, after_entries, after_entry, opening, standing}
 use Rattle.core_model.proofs.Answered.{IsWithin, within_added, within_opened}
-use Rattle.core_model.proofs.Growing.{legal_before, standing_on}
+use Rattle.core_model.proofs.Growing.{standing_on}
 
 -- the tables are within the limits of the basis, the last number has 32 bits, and a commit under way has it
 pub record IsSound (b : Basis) (s : Standing) : Type 0 where

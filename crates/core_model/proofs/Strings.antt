@@ -1,13 +1,12 @@
 -- The table of names: an add that was answered, and what it leaves.
-use Rattle.std.proofs.Common.{◌≡◌, ◌≢◌, ◌≤◌, ◌<◌, ◌^◌, ◌+◌, ◌-◌, ◌*◌, ◌==◌, ℕ, zero, suc, Bool, true, false, cond, ltb, List, [], ◌∷◌, ◌++◌, length, Option, Some, None, Result, Ok, Err, ◌⊎◌, inl, inr, ⊎_elim, refl, sym, ap, ◌∙◌, subst, arith}
+use Rattle.std.proofs.Common.{◌≡◌, ◌≤◌, ◌<◌, ◌^◌, ◌+◌, ◌==◌, ℕ, Bool, true, false, cond, ltb, List, [], ◌∷◌, ◌++◌, length, Option, Some, None, Ok, Err, ◌⊎◌, inl, inr, ⊎_elim, refl, sym, ap, ◌∙◌, subst, arith}
 use Rattle.std.specs.Prelude.{◌&&◌, is_ok, is_none}
 use Rattle.std.specs.Option.{option_map, unwrap_or}
 use Rattle.std.specs.Str.{bytes_eq}
-use Rattle.std.proofs.lemmas.Bool.{cond-true, cond-false, eq-eqb, ne_eqb, ltb-true, ltb-false}
+use Rattle.std.proofs.lemmas.Bool.{cond-true, cond-false, eq-eqb, ne_eqb, ltb-false}
 use Rattle.std.proofs.lemmas.Slice.Eq.{bytes_eq-Decides}
-use Rattle.names_table.specs.declared.fault.NameFault.{NameFault}
-use Rattle.names_table.specs.declared.fault.NameFault.TheVariants.{Full, OutOfMemory}
-use Rattle.names_table.specs.Names.{Names, after_add, answer_to_add, answer_to_new, appends, bytes_of, needed_for, offset_from, offset_of}
+use Rattle.names_table.specs.declared.fault.NameFault.TheVariants.{Full}
+use Rattle.names_table.specs.Names.{Names, after_add, answer_to_add, answer_to_new, bytes_of, needed_for, offset_from, offset_of}
 
 some_bytes : (names : List (List ℕ)) → 1 ≤ bytes_of names
 some_bytes [] = omega arith
