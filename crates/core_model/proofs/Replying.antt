@@ -18,7 +18,7 @@ use Rattle.core_model.specs.Calls.{tables_after}
 use Rattle.core_model.specs.History.{DeedFits, IsAnswered, IsLegal, Standing, after, after_deed, after_entries, after_entry, standing, with_added}
 use Rattle.core_model.specs.Law.{add_to}
 use Rattle.core_model.proofs.Answered.{added_items, added_names, added_types, is_taken, name_is_taken, table_of_taken}
-use Rattle.core_model.proofs.Growing.{standing_more, standing_on}
+use Rattle.core_model.proofs.Growing.{legal_before, standing_more, standing_on}
 use Rattle.core_model.proofs.Records as record_lemmas
 use Rattle.core_model.proofs.Strings as string_lemmas
 
@@ -107,12 +107,13 @@ given_is_answered x Items r at other g a = record_given x.items r at other g (is
 given_is_answered x Names name at other g a = name_given x.names name at other g (name_is_taken x.names name other a.1)
 
 -- adds of equal bytes to one table have one answer
-pub one_index : (b : Basis) (before between rest : List Entry) (d e : Entry) (table : TableKind) (i j : ℕ) → IsLegal b (before ++ d ∷ (between ++ e ∷ rest)) → deed_of d.word ≡ Some (Added table i) → deed_of e.word ≡ Some (Added table j) → d.brought ≡ e.brought → i ≡ j
-one_index b before between rest d e table i j l first second same =
-    let s = standing b before in
+pub one_index : (b : Basis) (before rest : List Entry) (e : Entry) (table : TableKind) (j : ℕ) → IsLegal b (before ++ e ∷ rest) → deed_of e.word ≡ Some (Added table j) →
+    (front back : List Entry) (d : Entry) (i : ℕ) → before ≡ front ++ d ∷ back → deed_of d.word ≡ Some (Added table i) → d.brought ≡ e.brought → i ≡ j
+one_index b before rest e table j l second front back d i at first same =
+    let s = standing b front in
+    let short : IsLegal b (front ++ d ∷ back) = legal_before b (front ++ d ∷ back) (before ++ e ∷ rest) l (record { rest = e ∷ rest; whole = ap (λ z. z ++ e ∷ rest) at }) in
     let given : Gives (after_entry s d).tables table d.brought i =
-    subst (λ o. Gives (after_deed s (caller d) o d.brought).tables table d.brought i) (sym first) (gives_added s.tables table i d.brought (fits_there b before (between ++ e ∷ rest) d (Some (Added table i)) l first)) in
-    let still : Gives (after_entries s (d ∷ between)).tables table d.brought i = gives_behind (after_entry s d) between table d.brought i given in
-    let here : Gives (after b (before ++ d ∷ between)) table d.brought i = subst (λ (z : Standing). Gives z.tables table d.brought i) (sym (standing_on b before (d ∷ between))) still in
-    let whole : IsLegal b ((before ++ d ∷ between) ++ e ∷ rest) = subst (IsLegal b) (sym (append_assoc before (d ∷ between) (e ∷ rest))) l in
-    given_is_answered (after b (before ++ d ∷ between)) table e.brought i j (subst (λ z. Gives (after b (before ++ d ∷ between)) table z i) same here) (fits_there b (before ++ d ∷ between) rest e (Some (Added table j)) whole second)
+    subst (λ o. Gives (after_deed s (caller d) o d.brought).tables table d.brought i) (sym first) (gives_added s.tables table i d.brought (fits_there b front back d (Some (Added table i)) short first)) in
+    let still : Gives (after_entries s (d ∷ back)).tables table d.brought i = gives_behind (after_entry s d) back table d.brought i given in
+    let here : Gives (after b before) table d.brought i = subst (λ (z : Standing). Gives z.tables table d.brought i) (sym (ap (standing b) at ∙ standing_on b front (d ∷ back))) still in
+    given_is_answered (after b before) table e.brought i j (subst (λ z. Gives (after b before) table z i) same here) (fits_there b before rest e (Some (Added table j)) l second)

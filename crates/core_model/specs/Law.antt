@@ -1,19 +1,60 @@
 -- How the laws are stated.
-use Rattle.std.specs.Prelude.{ℕ, List}
+use Rattle.std.specs.Prelude.{◌≡◌, ℕ, true, List, ◌∷◌, ◌++◌, Some, None}
+use Rattle.std.specs.Option.{option_to_list}
+use Rattle.turnstile.specs.declared.history.Entry.{Entry}
 use Rattle.turnstile.specs.declared.history.Basis.{Basis}
+use Rattle.call_journal.specs.declared.deed.Deed.{Deed}
+use Rattle.call_journal.specs.declared.deed.Deed.TheVariants.{Added, Ended}
 use Rattle.call_journal.specs.declared.deed.TableKind.{TableKind}
 use Rattle.call_journal.specs.declared.deed.TableKind.TheVariants.{Types, Items, Names}
+use Rattle.call_journal.specs.Words.{deed_of}
 use Rattle.core_model.specs.declared.call.Call.{Call}
 use Rattle.core_model.specs.declared.call.Call.TheVariants.{AddType, AddItem, AddName}
-use Rattle.core_model.specs.History.{IsStart}
-use Rattle.core_model.specs.World.{Event, World, world_after}
+use Rattle.core_model.specs.Calls.{answer, is_call}
+use Rattle.core_model.specs.Cuts.{Cut}
+use Rattle.core_model.specs.History.{IsLegal, IsStart}
+use Rattle.core_model.specs.World.{Commit, Event, World, entry_of_call, is_pass, reopens, step, tables_now, world_after}
 
 -- It holds of the world after any events, from any file that can be opened.
 abbrev pub Always : (World → Type 0) → Type 0
 Always P = (b : Basis) (events : List Event) → IsStart b → P (world_after b events)
+
+-- the entry of a call that is answered by the tables as they stand, if it has one
+abbrev pub entries_of : World → ℕ → Call → List Entry
+entries_of w c call = option_to_list (entry_of_call c call (answer (tables_now w) call))
+
+-- it always holds of a call that a pass may make, while no crash has come
+abbrev pub EachCall : (World → ℕ → Call → Type 0) → Type 0
+EachCall P = Always (λ w. (c : ℕ) (call : Call) → w.crash ≡ None → is_pass c ≡ true → is_call call ≡ true → P w c call)
+
+-- it always holds of an event and a pass, while no crash has come
+abbrev pub EachEvent : (World → Event → ℕ → Type 0) → Type 0
+EachEvent P = Always (λ w. (event : Event) (c : ℕ) → w.crash ≡ None → P w event c)
+
+-- it always holds of the commit under way
+abbrev pub EachCommit : (World → Commit → Type 0) → Type 0
+EachCommit P = Always (λ w. (k : Commit) → w.commit ≡ Some k → P w k)
+
+-- it always holds of what a crash left, and of the world once the file is opened again
+abbrev pub AfterCrash : (World → Cut → World → Type 0) → Type 0
+AfterCrash P = Always (λ w. (c : Cut) (others : List ℕ) → w.crash ≡ Some c → P w c (step w (reopens others)))
 
 -- an add of a record or of a name to its table
 abbrev pub add_to : TableKind → List ℕ → Call
 add_to Types r = AddType r
 add_to Items r = AddItem r
 add_to Names name = AddName name
+
+-- It holds of each add that was answered in a legal history: of what stands before its entry, of the entry, of the
+-- table and of the index or offset.
+abbrev pub EachAdd : (Basis → List Entry → Entry → TableKind → ℕ → Type 0) → Type 0
+EachAdd P =
+    (b : Basis) (before rest : List Entry) (e : Entry) (table : TableKind) (at : ℕ) →
+    IsLegal b (before ++ e ∷ rest) → deed_of e.word ≡ Some (Added table at) → P b before e table at
+
+-- It holds of each acknowledged end of a commit in a legal history: of the history, of the commit's number and of what
+-- stands behind the end.
+abbrev pub EachAcknowledged : (Basis → List Entry → ℕ → List Entry → Type 0) → Type 0
+EachAcknowledged P =
+    (b : Basis) (before rest : List Entry) (e : Entry) (n : ℕ) →
+    IsStart b → IsLegal b (before ++ e ∷ rest) → deed_of e.word ≡ Some (Ended n true) → P b (before ++ e ∷ rest) n rest

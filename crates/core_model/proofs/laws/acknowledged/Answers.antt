@@ -2,7 +2,7 @@ use Rattle.core_model.proofs.Acknowledging.{acknowledged_allowed, acknowledged_n
 use Rattle.core_model.proofs.laws.acknowledged.Goals as goal
 
 pub returns-clause-allowed : goal.returns-clause-allowed
-returns-clause-allowed c = acknowledged_allowed
+returns-clause-allowed c = λ b before rest e n start. acknowledged_allowed b before rest e n
 
 pub returns-clause-newest : goal.returns-clause-newest
-returns-clause-newest c = acknowledged_newest
+returns-clause-newest c = λ b before rest e n start legal is cut. acknowledged_newest b before rest e n cut start legal is

@@ -4,7 +4,7 @@ use Rattle.core_model.specs.World.{world_after}
 use Rattle.core_model.proofs.laws.reopening.Goals as goal
 
 pub returns-clause-allowed : goal.returns-clause-allowed
-returns-clause-allowed c = λ b events start cut is. (holds_always b events start).crash cut is
+returns-clause-allowed c = λ b events start cut others is. (holds_always b events start).crash cut is
 
 pub returns-clause-opened : goal.returns-clause-opened
 returns-clause-opened c = λ b events start cut others is. reopened_cut (world_after b events) cut others is (holds_always b events start)
