@@ -81,19 +81,20 @@ acknowledged_allowed b before rest e n l is last =
     )
 
 -- Where two entries stand in one list: the first in front of the second, at its place, or behind it.
-
-abbrev AreTwo : List Entry → Entry → List Entry → List Entry → Entry → List Entry → Type 0
+abbrev pub AreTwo : List Entry → Entry → List Entry → List Entry → Entry → List Entry → Type 0
 AreTwo before e rest front d back =
-    ((mid : List Entry) × (front ≡ before ++ e ∷ mid)) ⊎ ((e ≡ d) ⊎ ((mid : List Entry) × (back ≡ mid ++ e ∷ rest)))
+    ((mid : List Entry) × (front ≡ before ++ e ∷ mid)) ⊎ (((before ≡ front) × (e ≡ d)) ⊎ ((mid : List Entry) × (before ≡ front ++ d ∷ mid) × (back ≡ mid ++ e ∷ rest)))
 
-are_two : (before rest front back : List Entry) (e d : Entry) → before ++ e ∷ rest ≡ front ++ d ∷ back → AreTwo before e rest front d back
-are_two [] rest [] back e d eq = inr (inl (cc))
+pub are_two : (before rest front back : List Entry) (e d : Entry) → before ++ e ∷ rest ≡ front ++ d ∷ back → AreTwo before e rest front d back
+are_two [] rest [] back e d eq = inr (inl (refl, cc))
 are_two [] rest (x ∷ front) back e d eq = inl (front, cc)
-are_two (x ∷ before) rest [] back e d eq = inr (inr (before, cc))
+are_two (x ∷ before) rest [] back e d eq = inr (inr (before, cc, cc))
 are_two (x ∷ before) rest (y ∷ front) back e d eq =
     let same : x ≡ y = cc in
     let tails : before ++ e ∷ rest ≡ front ++ d ∷ back = cc in
-    ⊎_elim (λ (p : (mid : List Entry) × (front ≡ before ++ e ∷ mid)). let q : front ≡ before ++ e ∷ p.0 = p.1 in inl (p.0, cc)) (λ p. inr p) (are_two before rest front back e d tails)
+    ⊎_elim (λ (p : (mid : List Entry) × (front ≡ before ++ e ∷ mid)). let q : front ≡ before ++ e ∷ p.0 = p.1 in inl (p.0, cc))
+    (λ p. inr (⊎_elim (λ (q : (before ≡ front) × (e ≡ d)). let u : before ≡ front = q.0 in inl (cc, q.1))
+    (λ (q : (mid : List Entry) × (before ≡ front ++ d ∷ mid) × (back ≡ mid ++ e ∷ rest)). let u : before ≡ front ++ d ∷ q.0 = q.1 in inr (q.0, cc, q.2)) p)) (are_two before rest front back e d tails)
 
 all_at : (P : Entry → Type 0) (before rest : List Entry) (e : Entry) → All P (before ++ e ∷ rest) → P e
 all_at P [] rest e a = All-head P e rest a
@@ -115,8 +116,8 @@ acknowledged_newest b before rest e n c start l is (inr p) = ⊎_elim in_front (
       let next : c.number ≡ (standing b p.before).number + 1 = (fits_there b p.before p.rest p.began (Some (Began c.number)) legal p.deed).2 in
       omega arith
 
-  same_place : e ≡ p.began → n ≤ c.number
-  same_place same = let d : Some (Ended n true) ≡ Some (Began c.number) = sym is ∙ ap (λ (z : Entry). deed_of z.word) same ∙ p.deed in absurd (cc)
+  same_place : (before ≡ p.before) × (e ≡ p.began) → n ≤ c.number
+  same_place same = let d : Some (Ended n true) ≡ Some (Began c.number) = sym is ∙ ap (λ (z : Entry). deed_of z.word) same.1 ∙ p.deed in absurd (cc)
 
-  behind : (mid : List Entry) × (p.rest ≡ mid ++ e ∷ rest) → n ≤ c.number
-  behind m = let same : n ≡ c.number = all_at (IsNoOther c.number) m.0 rest e (subst (All (IsNoOther c.number)) m.1 p.newest) n is in omega arith
+  behind : (mid : List Entry) × (before ≡ p.before ++ p.began ∷ mid) × (p.rest ≡ mid ++ e ∷ rest) → n ≤ c.number
+  behind m = let same : n ≡ c.number = all_at (IsNoOther c.number) m.0 rest e (subst (All (IsNoOther c.number)) m.2 p.newest) n is in omega arith

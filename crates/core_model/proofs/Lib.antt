@@ -11,3 +11,4 @@ mod Running
 mod Later
 mod Replying
 mod Acknowledging
+mod Extending

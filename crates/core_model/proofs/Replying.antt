@@ -1,7 +1,6 @@
 -- The replies of a legal history.
 use Rattle.std.proofs.Common.{◌≡◌, ◌≢◌, ℕ, List, [], ◌∷◌, ◌++◌, Option, Some, None, Ok, refl, sym, ap, ◌∙◌, subst}
 use Rattle.std.specs.Option.{option_map, unwrap_or}
-use Rattle.std.proofs.lemmas.List.{append_assoc}
 use Rattle.leaf_grammar.specs.declared.grammar.Space.TheVariants as leaf
 use Rattle.record_table.specs.Table as records
 use Rattle.names_table.specs.Names as strings

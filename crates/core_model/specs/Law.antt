@@ -3,7 +3,6 @@ use Rattle.std.specs.Prelude.{◌≡◌, ℕ, true, List, ◌∷◌, ◌++◌, S
 use Rattle.std.specs.Option.{option_to_list}
 use Rattle.turnstile.specs.declared.history.Entry.{Entry}
 use Rattle.turnstile.specs.declared.history.Basis.{Basis}
-use Rattle.call_journal.specs.declared.deed.Deed.{Deed}
 use Rattle.call_journal.specs.declared.deed.Deed.TheVariants.{Added, Ended}
 use Rattle.call_journal.specs.declared.deed.TableKind.{TableKind}
 use Rattle.call_journal.specs.declared.deed.TableKind.TheVariants.{Types, Items, Names}

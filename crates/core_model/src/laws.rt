@@ -9,7 +9,7 @@ ghost use Rattle.call_journal.specs.declared.deed.TableKind.{TableKind};
 ghost use Rattle.call_journal.specs.Words.{deed_of};
 ghost use Rattle.core_model.specs.declared.call.Outcome.TheVariants.{Index};
 ghost use Rattle.core_model.specs.Calls.{answer, tables_after};
-ghost use Rattle.core_model.specs.Cuts.{AcknowledgesNoOther, BeganAt, Cut, IsAllowed, opened};
+ghost use Rattle.core_model.specs.Cuts.{AcknowledgesNoOther, BeganAt, Cut, Extends, IsAllowed, opened};
 ghost use Rattle.core_model.specs.History.{IsLegal, IsStart, after};
 ghost use Rattle.core_model.specs.Law.{AfterCrash, Always, EachAcknowledged, EachAdd, EachCall, EachCommit, EachEvent, add_to, entries_of};
 ghost use Rattle.core_model.specs.World.{MayLeave, calls, calls_device, done, settled, step, switching, sync, whose, write_super};
@@ -68,9 +68,10 @@ pub fn replies()
     ensures one_index { EachAdd (λ b before e table at. (front back : List Entry) (d : Entry) (i : ℕ) → before ≡ front ++ d ∷ back → deed_of d.word ≡ Some (Added table i) → d.brought ≡ e.brought → i ≡ at) }
 {}
 
-/// Acknowledged commits of a legal history: the cut of one is allowed until another is acknowledged, and no
-/// allowed cut has a smaller number.
+/// Acknowledged commits of a legal history: the cut of one is allowed until another is acknowledged, no allowed
+/// cut has a smaller number, and of two allowed cuts the later one holds all that the earlier one holds.
 pub fn acknowledged()
     ensures allowed { EachAcknowledged (λ b history n rest. AcknowledgesNoOther n rest → (c : Cut) × (c.number ≡ n) × IsAllowed b history c) }
     ensures newest { EachAcknowledged (λ b history n rest. (c : Cut) → IsAllowed b history c → n ≤ c.number) }
+    ensures nothing_lost { (b : Basis) (history : List Entry) (c d : Cut) → IsLegal b history → IsAllowed b history c → IsAllowed b history d → c.number ≤ d.number → Extends c.tables d.tables }
 {}
