@@ -12,3 +12,4 @@ mod Later
 mod Replying
 mod Acknowledging
 mod Extending
+mod Smooth

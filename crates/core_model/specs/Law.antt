@@ -1,5 +1,5 @@
 -- How the laws are stated.
-use Rattle.std.specs.Prelude.{◌≡◌, ℕ, true, List, ◌∷◌, ◌++◌, Some, None}
+use Rattle.std.specs.Prelude.{◌≡◌, ℕ, true, List, [], ◌∷◌, ◌++◌, Some, None}
 use Rattle.std.specs.Option.{option_to_list}
 use Rattle.turnstile.specs.declared.history.Entry.{Entry}
 use Rattle.turnstile.specs.declared.history.Basis.{Basis}
@@ -12,7 +12,7 @@ use Rattle.core_model.specs.declared.call.Call.TheVariants.{AddType, AddItem, Ad
 use Rattle.core_model.specs.Calls.{answer, is_call}
 use Rattle.core_model.specs.Cuts.{Cut}
 use Rattle.core_model.specs.History.{IsLegal, IsStart}
-use Rattle.core_model.specs.World.{Commit, Event, World, entry_of_call, is_pass, reopens, step, tables_now, world_after}
+use Rattle.core_model.specs.World.{Commit, Event, World, begins, calls_device, ends, entry_of_call, is_pass, reopens, step, sync, tables_now, world_after, write, write_super}
 
 -- It holds of the world after any events, from any file that can be opened.
 abbrev pub Always : (World → Type 0) → Type 0
@@ -33,6 +33,11 @@ EachEvent P = Always (λ w. (event : Event) (c : ℕ) → w.crash ≡ None → P
 -- it always holds of the commit under way
 abbrev pub EachCommit : (World → Commit → Type 0) → Type 0
 EachCommit P = Always (λ w. (k : Commit) → w.commit ≡ Some k → P w k)
+
+-- a commit of a pass onto a settled file that meets no failure
+abbrev pub smooth_commit : ℕ → List Event
+smooth_commit c =
+    begins c ∷ calls_device write true ∷ calls_device sync true ∷ calls_device write_super true ∷ calls_device sync true ∷ ends c ∷ []
 
 -- it always holds of what a crash left, and of the world once the file is opened again
 abbrev pub AfterCrash : (World → Cut → World → Type 0) → Type 0

@@ -68,7 +68,7 @@ pub data File : Type 0 where
   settled : Cut → File
   doubt : Cut → Cut → File
 
--- which of the cuts of a file a crash leaves
+-- which of the cuts of a file a crash leaves: the one that it was settled on, or the pending one
 pub data Which : Type 0 where
   older : Which
   pending : Which
@@ -187,7 +187,8 @@ tables_now w = after w.basis w.history
 abbrev pub called : World → ℕ → Call → World
 called w c call = filed_or_looked w c (entry_of_call c call (answer (tables_now w) call))
 
--- a commit that is asked while one is under way
+-- A commit that is asked while one is under way is refused, and has an entry. Asked while none is, it begins, which is
+-- an event of its own.
 abbrev pub refused_commit : World → ℕ → Option Commit → World
 refused_commit w c None = w
 refused_commit w c (Some commit) = filed w c (entry_of c (Underway commit.cut.number) [])
@@ -206,7 +207,7 @@ begun w c = record (filed w c (entry_of c (Began (number_now w + 1)) [])) {
   commit = Some (record { caller = c; cut = cut_at w.basis w.history (number_now w + 1); phase = first_phase w.file });
 }
 
--- what a device call of the commit makes of the world, where its phase has that call
+-- What a device call of the commit makes of the world. A call that its phase does not have changes nothing.
 abbrev pub progressed : World → Commit → Option Progress → World
 progressed w commit None = w
 progressed w commit (Some p) = record w { file = p.file; commit = Some (record commit { phase = p.phase }) }

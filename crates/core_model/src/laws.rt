@@ -1,18 +1,18 @@
 //! The law of the world, and smaller laws that show what its words mean. docs/HISTORY.md tells them in plain
 //! words. Each is a function that does nothing: what it promises is proved of the definitions alone.
-ghost use Rattle.std.specs.Prelude.{◌≡◌, ◌≢◌, ◌≤◌, ◌^◌, ℕ, Bool, true, List, [], ◌∷◌, ◌++◌, Option, Some, Ok};
+ghost use Rattle.std.specs.Prelude.{◌≡◌, ◌≢◌, ◌≤◌, ◌<◌, ◌^◌, ◌+◌, ◌-◌, ℕ, Bool, true, List, [], ◌∷◌, ◌++◌, Option, Some, Ok};
 ghost use Rattle.turnstile.specs.declared.history.Basis.{Basis};
 ghost use Rattle.turnstile.specs.declared.history.Entry.{Entry};
 ghost use Rattle.turnstile.specs.Histories.{Begins, calls_by};
-ghost use Rattle.call_journal.specs.declared.deed.Deed.TheVariants.{Added};
+ghost use Rattle.call_journal.specs.declared.deed.Deed.TheVariants.{Added, Began, Ended};
 ghost use Rattle.call_journal.specs.declared.deed.TableKind.{TableKind};
 ghost use Rattle.call_journal.specs.Words.{deed_of};
 ghost use Rattle.core_model.specs.declared.call.Outcome.TheVariants.{Index};
 ghost use Rattle.core_model.specs.Calls.{answer, tables_after};
 ghost use Rattle.core_model.specs.Cuts.{AcknowledgesNoOther, BeganAt, Cut, Extends, IsAllowed, opened};
-ghost use Rattle.core_model.specs.History.{IsLegal, IsStart, after};
-ghost use Rattle.core_model.specs.Law.{AfterCrash, Always, EachAcknowledged, EachAdd, EachCall, EachCommit, EachEvent, add_to, entries_of};
-ghost use Rattle.core_model.specs.World.{MayLeave, calls, calls_device, done, settled, step, switching, sync, whose, write_super};
+ghost use Rattle.core_model.specs.History.{IsLegal, IsStart, after, age_of};
+ghost use Rattle.core_model.specs.Law.{AfterCrash, Always, EachAcknowledged, EachAdd, EachCall, EachCommit, EachEvent, add_to, entries_of, smooth_commit};
+ghost use Rattle.core_model.specs.World.{Event, MayLeave, calls, calls_device, done, entry_of, settled, step, switching, sync, whose, world_after, write_super};
 
 /// The law. After any events, from any file that can be opened: the history is legal; what a pass has seen is
 /// a beginning of it; the pass's own calls are those of its number there, each once and in order; and what a
@@ -34,15 +34,17 @@ pub fn events()
     ensures sees { EachCall (λ w c call. ((step w (calls c call)).views c).seen ≡ (step w (calls c call)).history) }
     ensures order { EachEvent (λ w event c. Begins (w.views c).seen ((step w event).views c).seen) }
     ensures others { EachEvent (λ w event c. whose event ≢ Some c → (step w event).views c ≡ w.views c) }
-    ensures stays { EachEvent (λ w event c. event ≢ calls_device sync true → (cut : Cut) → MayLeave w.file cut → MayLeave (step w event).file cut) }
 {}
 
-/// What the commit under way does. Its cut has the tables of where it began. When its superblock is written, a
-/// crash may leave its cut, also where that write fails. Once it is done, a crash leaves nothing else.
+/// What a commit does. The one under way has the tables of where it began. When its superblock is written, a
+/// crash may leave its cut, also where that write fails; what a crash may leave stays so until a sync is done; and
+/// once the commit is done, a crash leaves nothing but its cut. A commit that meets no failure is acknowledged.
 pub fn commits()
     ensures begun { EachCommit (λ w k. BeganAt w.basis w.history k.cut) }
     ensures comes { EachCommit (λ w k. k.phase ≡ switching → w.crash ≡ None → (ok : Bool) → MayLeave (step w (calls_device write_super ok)).file k.cut) }
+    ensures stays { Always (λ w. (event : Event) (c : Cut) → w.crash ≡ None → event ≢ calls_device sync true → MayLeave w.file c → MayLeave (step w event).file c) }
     ensures certain { EachCommit (λ w k. k.phase ≡ done → w.file ≡ settled k.cut) }
+    ensures succeeds { (b : Basis) (c : ℕ) → age_of b < 2 ^ 32 - 1 → c < 255 → (world_after b (smooth_commit c)).history ≡ entry_of c (Began (age_of b + 1)) [] ∷ entry_of c (Ended (age_of b + 1) true) [] ∷ [] }
 {}
 
 /// What a crash and the opening after it leave: a cut that was allowed, a file that is settled on it, and an
