@@ -12,11 +12,12 @@ use Rattle.call_journal.specs.declared.deed.Deed.{Deed}
 use Rattle.call_journal.specs.declared.deed.Deed.TheVariants.{Added, Asked, Counted, NotGiven, Full, Began, Ended, Underway}
 use Rattle.call_journal.specs.Words.{deed_of}
 use Rattle.core_model.specs.Tables.{Tables}
-use Rattle.core_model.specs.History.{IsLegal, Standing, after, after_deed, after_entries, after_entry, age_of, standing, with_added}
-use Rattle.core_model.specs.Cuts.{BeganAt, Cut, Extends, IsAllowed, StartsWith, opened}
-use Rattle.core_model.proofs.Acknowledging.{are_two}
+use Rattle.core_model.specs.History.{IsLegal, IsStart, Standing, after, after_deed, after_entries, after_entry, age_of, standing, with_added}
+use Rattle.core_model.specs.Cuts.{BeganAt, Cut, Extends, IsAllowed, StartsWith, cut_at}
+use Rattle.core_model.specs.Law.{IsAcknowledged}
+use Rattle.core_model.proofs.Acknowledging.{acknowledged_newest, are_two, number_begun}
 use Rattle.core_model.proofs.Answered.{added_items, added_names, added_types}
-use Rattle.core_model.proofs.Growing.{legal_before, standing_more, standing_on}
+use Rattle.core_model.proofs.Growing.{legal_before, standing_on}
 use Rattle.core_model.proofs.Records as record_lemmas
 use Rattle.core_model.proofs.Replying.{fits_there}
 use Rattle.core_model.proofs.Sound.{rising}
@@ -76,32 +77,43 @@ extends_history b h more = subst (λ (z : Standing). Extends (after b h) z.table
 
 -- numbers
 
+-- a cut that began in the history, whether or not another was acknowledged behind it
+pub record HasBegun (b : Basis) (h : List Entry) (c : Cut) : Type 0 where
+  pub before : List Entry
+  pub began : Entry
+  pub rest : List Entry
+  pub there : h ≡ before ++ began ∷ rest
+  pub deed : deed_of began.word ≡ Some (Began c.number)
+  pub tables : c.tables ≡ after b before
+
+has_begun : (b : Basis) (h : List Entry) (c : Cut) → BeganAt b h c → HasBegun b h c
+has_begun b h c p = record { before = p.before; began = p.began; rest = p.rest; there = p.there; deed = p.deed; tables = p.tables }
+
 -- a commit that began has the next number
-began_next : (b : Basis) (h : List Entry) (c : Cut) → IsLegal b h → (p : BeganAt b h c) → c.number ≡ (standing b p.before).number + 1
+began_next : (b : Basis) (h : List Entry) (c : Cut) → IsLegal b h → (p : HasBegun b h c) → c.number ≡ (standing b p.before).number + 1
 began_next b h c l p = (fits_there b p.before p.rest p.began (Some (Began c.number)) (subst (IsLegal b) p.there l) p.deed).2
 
--- it is greater than that of a commit that began before it
-number_rises : (b : Basis) (h : List Entry) (c d : Cut) → IsLegal b h → (p : BeganAt b h c) (q : BeganAt b h d) → (mid : List Entry) → q.before ≡ p.before ++ p.began ∷ mid → c.number < d.number
+-- which is above that of the cut that was opened
+above_opened : (b : Basis) (h : List Entry) (c : Cut) → IsLegal b h → HasBegun b h c → age_of b < c.number
+above_opened b h c l p =
+    let next : c.number ≡ (standing b p.before).number + 1 = began_next b h c l p in
+    let high : age_of b ≤ (standing b p.before).number = rising b [] p.before (legal_before b p.before h l (record { rest = p.began ∷ p.rest; whole = p.there })) in
+    omega arith
+
+-- and above that of a commit that began before it
+number_rises : (b : Basis) (h : List Entry) (c d : Cut) → IsLegal b h → (p : HasBegun b h c) (q : HasBegun b h d) → (mid : List Entry) → q.before ≡ p.before ++ p.began ∷ mid → c.number < d.number
 number_rises b h c d l p q mid at =
     let front : IsLegal b (p.before ++ p.began ∷ mid) = subst (IsLegal b) at (legal_before b q.before h l (record { rest = q.began ∷ q.rest; whole = q.there })) in
     let whole : IsLegal b ((p.before ++ p.began ∷ []) ++ mid) = subst (IsLegal b) (sym (append_assoc p.before (p.began ∷ []) mid)) front in
     let high : (standing b (p.before ++ p.began ∷ [])).number ≤ (standing b ((p.before ++ p.began ∷ []) ++ mid)).number = rising b (p.before ++ p.began ∷ []) mid whole in
     let same : (standing b ((p.before ++ p.began ∷ []) ++ mid)).number ≡ (standing b q.before).number = ap (λ z. (standing b z).number) (append_assoc p.before (p.began ∷ []) mid ∙ sym at) in
-    let own : (standing b (p.before ++ p.began ∷ [])).number ≡ c.number = ap (λ (z : Standing). z.number) (standing_more b p.before p.began) ∙ ap (λ o. (after_deed (standing b p.before) (caller p.began) o p.began.brought).number) p.deed in
+    let own : (standing b (p.before ++ p.began ∷ [])).number ≡ c.number = number_begun b p.before p.began c.number p.deed in
     let next : d.number ≡ (standing b q.before).number + 1 = began_next b h d l q in
     omega arith
 
--- of two allowed cuts the one of the greater number extends the other
-pub later_extends : (b : Basis) (h : List Entry) (c d : Cut) → IsLegal b h → IsAllowed b h c → IsAllowed b h d → c.number ≤ d.number → Extends c.tables d.tables
-later_extends b h c d l (inl p) (inl q) le = subst (λ (z : Cut). Extends c.tables z.tables) (p.0 ∙ sym q.0) (extends_self c.tables)
-later_extends b h c d l (inl p) (inr q) le =
-    subst (λ (z : Cut). Extends z.tables d.tables) (sym p.0) (subst (λ z. Extends (opened b).tables z) (sym q.tables) (extends_history b [] q.before))
-later_extends b h c d l (inr p) (inl q) le =
-    let old : d.number ≡ age_of b = ap (λ (z : Cut). z.number) q.0 in
-    let next : c.number ≡ (standing b p.before).number + 1 = began_next b h c l p in
-    let high : age_of b ≤ (standing b p.before).number = rising b [] p.before (legal_before b p.before h l (record { rest = p.began ∷ p.rest; whole = p.there })) in
-    absurd (omega arith)
-later_extends b h c d l (inr p) (inr q) le = ⊎_elim in_front (⊎_elim same_place behind) (are_two p.before p.rest q.before q.rest p.began q.began (sym p.there ∙ q.there)) where
+-- of two cuts that began the one of the greater number extends the other
+began_extends : (b : Basis) (h : List Entry) (c d : Cut) → IsLegal b h → HasBegun b h c → HasBegun b h d → c.number ≤ d.number → Extends c.tables d.tables
+began_extends b h c d l p q le = ⊎_elim in_front (⊎_elim same_place behind) (are_two p.before p.rest q.before q.rest p.began q.began (sym p.there ∙ q.there)) where
   extended : (t u : Tables) → c.tables ≡ t → d.tables ≡ u → Extends t u → Extends c.tables d.tables
   extended t u p q x = subst (λ z. Extends z d.tables) (sym p) (subst (Extends t) (sym q) x)
 
@@ -113,3 +125,13 @@ later_extends b h c d l (inr p) (inr q) le = ⊎_elim in_front (⊎_elim same_pl
 
   behind : (mid : List Entry) × (p.before ≡ q.before ++ q.began ∷ mid) × (q.rest ≡ mid ++ p.began ∷ p.rest) → Extends c.tables d.tables
   behind m = let less : d.number < c.number = number_rises b h d c l q p m.0 m.1 in absurd (omega arith)
+
+-- an allowed cut of no smaller number extends one that began
+allowed_extends : (b : Basis) (h : List Entry) (c d : Cut) → IsLegal b h → HasBegun b h c → IsAllowed b h d → c.number ≤ d.number → Extends c.tables d.tables
+allowed_extends b h c d l p (inl q) le = let old : d.number ≡ age_of b = ap (λ (z : Cut). z.number) q.0 in let above : age_of b < c.number = above_opened b h c l p in absurd (omega arith)
+allowed_extends b h c d l p (inr q) le = began_extends b h c d l p (has_begun b h d q) le
+
+-- an allowed cut extends the tables where an acknowledged commit began
+pub acknowledged_extends : (b : Basis) (h front : List Entry) (n : ℕ) (k : IsAcknowledged h front n) (c : Cut) → IsStart b → IsLegal b h → IsAllowed b h c → Extends (after b front) c.tables
+acknowledged_extends b h front n k c start l allowed =
+    allowed_extends b h (cut_at b front n) c l (record { before = front; began = k.began; rest = k.between ++ k.ended ∷ k.rest; there = k.there; deed = k.begins; tables = refl }) allowed (acknowledged_newest b h front n k c start l allowed)

@@ -3,7 +3,7 @@ use Rattle.std.specs.Prelude.{◌≡◌, ℕ, true, List, [], ◌∷◌, ◌++�
 use Rattle.std.specs.Option.{option_to_list}
 use Rattle.turnstile.specs.declared.history.Entry.{Entry}
 use Rattle.turnstile.specs.declared.history.Basis.{Basis}
-use Rattle.call_journal.specs.declared.deed.Deed.TheVariants.{Added, Ended}
+use Rattle.call_journal.specs.declared.deed.Deed.TheVariants.{Added, Began, Ended}
 use Rattle.call_journal.specs.declared.deed.TableKind.{TableKind}
 use Rattle.call_journal.specs.declared.deed.TableKind.TheVariants.{Types, Items, Names}
 use Rattle.call_journal.specs.Words.{deed_of}
@@ -56,9 +56,19 @@ EachAdd P =
     (b : Basis) (before rest : List Entry) (e : Entry) (table : TableKind) (at : ℕ) →
     IsLegal b (before ++ e ∷ rest) → deed_of e.word ≡ Some (Added table at) → P b before e table at
 
--- It holds of each acknowledged end of a commit in a legal history: of the history, of the commit's number and of what
--- stands behind the end.
-abbrev pub EachAcknowledged : (Basis → List Entry → ℕ → List Entry → Type 0) → Type 0
+-- a commit of this number began behind the entries `front` of a history, and was acknowledged
+pub record IsAcknowledged (history front : List Entry) (n : ℕ) : Type 0 where
+  pub began : Entry
+  pub between : List Entry
+  pub ended : Entry
+  pub rest : List Entry
+  pub there : history ≡ front ++ began ∷ (between ++ ended ∷ rest)
+  pub begins : deed_of began.word ≡ Some (Began n)
+  pub ends : deed_of ended.word ≡ Some (Ended n true)
+
+-- It holds of each acknowledged commit of a legal history: of the history, of what stands before the commit's beginning,
+-- of its number and of what stands behind its end.
+abbrev pub EachAcknowledged : (Basis → List Entry → List Entry → ℕ → List Entry → Type 0) → Type 0
 EachAcknowledged P =
-    (b : Basis) (before rest : List Entry) (e : Entry) (n : ℕ) →
-    IsStart b → IsLegal b (before ++ e ∷ rest) → deed_of e.word ≡ Some (Ended n true) → P b (before ++ e ∷ rest) n rest
+    (b : Basis) (history front : List Entry) (n : ℕ) (k : IsAcknowledged history front n) →
+    IsStart b → IsLegal b history → P b history front n k.rest

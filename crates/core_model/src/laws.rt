@@ -9,9 +9,9 @@ ghost use Rattle.call_journal.specs.declared.deed.TableKind.{TableKind};
 ghost use Rattle.call_journal.specs.Words.{deed_of};
 ghost use Rattle.core_model.specs.declared.call.Outcome.TheVariants.{Index};
 ghost use Rattle.core_model.specs.Calls.{answer, tables_after};
-ghost use Rattle.core_model.specs.Cuts.{AcknowledgesNoOther, BeganAt, Cut, Extends, IsAllowed, opened};
+ghost use Rattle.core_model.specs.Cuts.{AcknowledgesNoOther, BeganAt, Cut, Extends, IsAllowed, cut_at, opened};
 ghost use Rattle.core_model.specs.History.{IsLegal, IsStart, after, age_of};
-ghost use Rattle.core_model.specs.Law.{AfterCrash, Always, EachAcknowledged, EachAdd, EachCall, EachCommit, EachEvent, add_to, entries_of, smooth_commit};
+ghost use Rattle.core_model.specs.Law.{AfterCrash, Always, EachAcknowledged, EachAdd, EachCall, EachCommit, EachEvent, IsAcknowledged, add_to, entries_of, smooth_commit};
 ghost use Rattle.core_model.specs.World.{Event, MayLeave, calls, calls_device, done, entry_of, settled, step, switching, sync, whose, world_after, write_super};
 
 /// The law. After any events, from any file that can be opened: the history is legal; what a pass has seen is
@@ -70,10 +70,13 @@ pub fn replies()
     ensures one_index { EachAdd (λ b before e table at. (front back : List Entry) (d : Entry) (i : ℕ) → before ≡ front ++ d ∷ back → deed_of d.word ≡ Some (Added table i) → d.brought ≡ e.brought → i ≡ at) }
 {}
 
-/// Acknowledged commits of a legal history: the cut of one is allowed until another is acknowledged, no allowed
-/// cut has a smaller number, and of two allowed cuts the later one holds all that the earlier one holds.
+/// Acknowledged commits of a legal history. Each began in it. Its cut is allowed until another is acknowledged; no
+/// allowed cut has a smaller number, and each holds all that the tables held where it began. So whatever a crash
+/// may leave has all that an acknowledged commit wrote.
 pub fn acknowledged()
-    ensures allowed { EachAcknowledged (λ b history n rest. AcknowledgesNoOther n rest → (c : Cut) × (c.number ≡ n) × IsAllowed b history c) }
-    ensures newest { EachAcknowledged (λ b history n rest. (c : Cut) → IsAllowed b history c → n ≤ c.number) }
-    ensures nothing_lost { (b : Basis) (history : List Entry) (c d : Cut) → IsLegal b history → IsAllowed b history c → IsAllowed b history d → c.number ≤ d.number → Extends c.tables d.tables }
+    ensures began { (b : Basis) (before rest : List Entry) (e : Entry) (n : ℕ) → IsLegal b (before ++ e ∷ rest) → deed_of e.word ≡ Some (Ended n true) → (front : List Entry) × IsAcknowledged (before ++ e ∷ rest) front n }
+    ensures allowed { EachAcknowledged (λ b history front n rest. AcknowledgesNoOther n rest → IsAllowed b history (cut_at b front n)) }
+    ensures newest { EachAcknowledged (λ b history front n rest. (c : Cut) → IsAllowed b history c → n ≤ c.number) }
+    ensures nothing_lost { EachAcknowledged (λ b history front n rest. (c : Cut) → IsAllowed b history c → Extends (after b front) c.tables) }
+    ensures survives { Always (λ w. (front : List Entry) (n : ℕ) (c : Cut) → IsAcknowledged w.history front n → MayLeave w.file c → Extends (after w.basis front) c.tables) }
 {}
