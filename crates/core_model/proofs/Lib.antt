@@ -1,15 +1,15 @@
-mod Growing
+pub mod Growing
 mod Missing
-mod Records
-mod Strings
-mod Answered
-mod Sound
-mod Filing
-mod Allowed
+pub mod Records
+pub mod Strings
+pub mod Answered
+pub mod Sound
+pub mod Filing
+pub mod Allowed
 mod Holding
 mod Running
 mod Later
-mod Replying
-mod Acknowledging
-mod Extending
+pub mod Replying
+pub mod Acknowledging
+pub mod Extending
 mod Smooth

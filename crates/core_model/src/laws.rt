@@ -1,12 +1,13 @@
 //! The law of the world, and smaller laws that show what its words mean. docs/HISTORY.md tells them in plain
 //! words. Each is a function that does nothing: what it promises is proved of the definitions alone.
-ghost use Rattle.std.specs.Prelude.{◌≡◌, ◌≢◌, ◌≤◌, ◌<◌, ◌^◌, ◌+◌, ◌-◌, ℕ, Bool, true, List, [], ◌∷◌, ◌++◌, Option, Some, Ok};
+ghost use Rattle.std.specs.Prelude.{◌≡◌, ◌≢◌, ◌≤◌, ◌<◌, ◌^◌, ◌+◌, ◌-◌, ◌/◌, ℕ, Bool, true, List, [], ◌∷◌, ◌++◌, Option, Some, Ok};
 ghost use Rattle.turnstile.specs.declared.history.Basis.{Basis};
 ghost use Rattle.turnstile.specs.declared.history.Entry.{Entry};
-ghost use Rattle.turnstile.specs.Histories.{Begins, calls_by};
+ghost use Rattle.turnstile.specs.Histories.{Begins, caller, calls_by};
+ghost use Rattle.call_journal.specs.declared.deed.Deed.{Deed};
 ghost use Rattle.call_journal.specs.declared.deed.Deed.TheVariants.{Added, Began, Ended};
 ghost use Rattle.call_journal.specs.declared.deed.TableKind.{TableKind};
-ghost use Rattle.call_journal.specs.Words.{deed_of};
+ghost use Rattle.call_journal.specs.Words.{IsDeed, deed_of, word_of};
 ghost use Rattle.core_model.specs.declared.call.Outcome.TheVariants.{Index};
 ghost use Rattle.core_model.specs.Calls.{answer, tables_after};
 ghost use Rattle.core_model.specs.Cuts.{AcknowledgesNoOther, BeganAt, Cut, Extends, IsAllowed, cut_at, opened};
@@ -68,6 +69,14 @@ pub fn replies()
     ensures tables { EachAdd (λ b before e table at. after b (before ++ e ∷ []) ≡ tables_after (after b before) (add_to table e.brought)) }
     ensures no_others { (b : Basis) (before : List Entry) (e : Entry) → ((table : TableKind) (at : ℕ) → deed_of e.word ≢ Some (Added table at)) → after b (before ++ e ∷ []) ≡ after b before }
     ensures one_index { EachAdd (λ b before e table at. (front back : List Entry) (d : Entry) (i : ℕ) → before ≡ front ++ d ∷ back → deed_of d.word ≡ Some (Added table i) → d.brought ≡ e.brought → i ≡ at) }
+{}
+
+/// Journal words: a word tells its caller and its deed, and it is the only word of that caller that tells this deed.
+pub fn words()
+    ensures deed { (c : ℕ) (deed : Deed) → IsDeed deed → deed_of (word_of c deed) ≡ Some deed }
+    ensures caller { (c : ℕ) (deed : Deed) (bytes : List ℕ) → IsDeed deed → caller (entry_of c deed bytes) ≡ c }
+    ensures bits { (c : ℕ) (deed : Deed) → c < 256 → IsDeed deed → word_of c deed < 2 ^ 64 }
+    ensures only { (word : ℕ) (deed : Deed) → word < 2 ^ 64 → deed_of word ≡ Some deed → word ≡ word_of (word / 2 ^ 56) deed }
 {}
 
 /// Acknowledged commits of a legal history. Each began in it. Its cut is allowed until another is acknowledged; no

@@ -6,4 +6,4 @@ mod call;
 mod laws;
 
 pub use crate::call::{Call, Outcome, Verdict};
-pub use crate::laws::{acknowledged, commits, events, reopening, replies, world};
+pub use crate::laws::{acknowledged, commits, events, reopening, replies, words, world};
