@@ -64,7 +64,7 @@ seen_progressed : (w : World) (k : Commit) (o : Option Progress) → (progressed
 seen_progressed w k None = refl
 seen_progressed w k (Some p) = refl
 
-seen_worked : (w : World) (o : Option Commit) (call : DeviceCall) (ok : Bool) → (worked w o call ok).views ≡ w.views
+pub seen_worked : (w : World) (o : Option Commit) (call : DeviceCall) (ok : Bool) → (worked w o call ok).views ≡ w.views
 seen_worked w None call ok = refl
 seen_worked w (Some k) call ok = seen_progressed w k (progress k.cut w.file k.phase call ok)
 

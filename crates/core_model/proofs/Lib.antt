@@ -9,6 +9,7 @@ pub mod Allowed
 mod Holding
 mod Running
 mod Later
+mod Own
 pub mod Replying
 pub mod Acknowledging
 pub mod Extending
