@@ -1,0 +1,16 @@
+pub mod Growing
+mod Missing
+pub mod Records
+pub mod Strings
+pub mod Answered
+pub mod Sound
+pub mod Filing
+pub mod Allowed
+mod Holding
+mod Running
+mod Later
+mod Own
+pub mod Replying
+pub mod Acknowledging
+pub mod Extending
+mod Smooth

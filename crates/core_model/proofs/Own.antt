@@ -1,0 +1,88 @@
+-- What a call does for the pass that makes it, and what an event leaves to all others.
+use Rattle.std.proofs.Common.{◌≡◌, ◌≢◌, ◌-◌, ◌^◌, ◌==◌, ℕ, Bool, true, false, cond, ltb, [], ◌∷◌, ◌++◌, Option, Some, None, refl, sym, ap, ◌∙◌, subst}
+use Rattle.std.specs.Prelude.{◌&&◌, is_none}
+use Rattle.std.specs.Option.{option_to_list}
+use Rattle.std.proofs.lemmas.Bool.{and_from, eq-eqb, eqb-true, ne_eqb}
+use Rattle.std.proofs.lemmas.List.{append-nil}
+use Rattle.turnstile.specs.declared.history.Entry.{Entry}
+use Rattle.core_model.specs.declared.call.Call.{Call}
+use Rattle.core_model.specs.Calls.{answer, is_call}
+use Rattle.core_model.specs.Law.{entries_of}
+use Rattle.core_model.specs.World.{Commit, Event, Phase, View, World, begun, called, ended, ended_in, entry_of_call, filed, filed_or_looked, is_pass, number_now, refused_commit, run, step, step_from, tables_now, whose, with_view}
+use Rattle.core_model.specs.World.{resolving, resolving_sync, writing, switching, switching_sync, done, failed, calls, asks_commit, begins, calls_device, ends, dies, crashes, reopens}
+use Rattle.core_model.proofs.Later.{seen_worked}
+
+-- a call of a pass
+
+own_view : (views : ℕ → View) (c : ℕ) (v : View) → with_view views c v c ≡ v
+own_view views c v = ap (λ t. cond t v (views c)) (eq-eqb c c refl)
+
+step_called : (w : World) (c : ℕ) (call : Call) → w.crash ≡ None → is_pass c ≡ true → is_call call ≡ true → step w (calls c call) ≡ called w c call
+step_called w c call up pass is = ap (λ o. step_from o w (calls c call)) up ∙ ap (λ t. cond t (called w c call) w) (and_from (is_pass c) (is_call call) pass is)
+
+filed_history : (w : World) (c : ℕ) (o : Option Entry) → (filed_or_looked w c o).history ≡ w.history ++ option_to_list o
+filed_history w c None = sym (append-nil w.history)
+filed_history w c (Some e) = refl
+
+filed_mine : (w : World) (c : ℕ) (o : Option Entry) → ((filed_or_looked w c o).views c).mine ≡ (w.views c).mine ++ option_to_list o
+filed_mine w c None = ap (λ (v : View). v.mine) (own_view w.views c (record { seen = w.history; mine = (w.views c).mine })) ∙ sym (append-nil (w.views c).mine)
+filed_mine w c (Some e) = ap (λ (v : View). v.mine) (own_view w.views c (record { seen = w.history ++ e ∷ []; mine = (w.views c).mine ++ e ∷ [] }))
+
+filed_seen : (w : World) (c : ℕ) (o : Option Entry) → ((filed_or_looked w c o).views c).seen ≡ (filed_or_looked w c o).history
+filed_seen w c None = ap (λ (v : View). v.seen) (own_view w.views c (record { seen = w.history; mine = (w.views c).mine }))
+filed_seen w c (Some e) = ap (λ (v : View). v.seen) (own_view w.views c (record { seen = w.history ++ e ∷ []; mine = (w.views c).mine ++ e ∷ [] }))
+
+pub answered : (w : World) (c : ℕ) (call : Call) → w.crash ≡ None → is_pass c ≡ true → is_call call ≡ true → (step w (calls c call)).history ≡ w.history ++ entries_of w c call
+answered w c call up pass is = ap (λ (v : World). v.history) (step_called w c call up pass is) ∙ filed_history w c (entry_of_call c call (answer (tables_now w) call))
+
+pub own : (w : World) (c : ℕ) (call : Call) → w.crash ≡ None → is_pass c ≡ true → is_call call ≡ true → ((step w (calls c call)).views c).mine ≡ (w.views c).mine ++ entries_of w c call
+own w c call up pass is = ap (λ (v : World). (v.views c).mine) (step_called w c call up pass is) ∙ filed_mine w c (entry_of_call c call (answer (tables_now w) call))
+
+pub sees : (w : World) (c : ℕ) (call : Call) → w.crash ≡ None → is_pass c ≡ true → is_call call ≡ true → ((step w (calls c call)).views c).seen ≡ (step w (calls c call)).history
+sees w c call up pass is = subst (λ (v : World). (v.views c).seen ≡ v.history) (sym (step_called w c call up pass is)) (filed_seen w c (entry_of_call c call (answer (tables_now w) call)))
+
+-- all others
+
+other_view : (views : ℕ → View) (c : ℕ) (v : View) (d : ℕ) → c ≢ d → with_view views c v d ≡ views d
+other_view views c v d other = ap (λ t. cond t v (views d)) (ne_eqb d c (λ same. other (sym same)))
+
+others_filed : (w : World) (c : ℕ) (e : Entry) (d : ℕ) → c ≢ d → (filed w c e).views d ≡ w.views d
+others_filed w c e d other = other_view w.views c (record { seen = w.history ++ e ∷ []; mine = (w.views c).mine ++ e ∷ [] }) d other
+
+others_called : (w : World) (c : ℕ) (o : Option Entry) (d : ℕ) → c ≢ d → (filed_or_looked w c o).views d ≡ w.views d
+others_called w c None d other = other_view w.views c (record { seen = w.history; mine = (w.views c).mine }) d other
+others_called w c (Some e) d other = others_filed w c e d other
+
+others_refused : (w : World) (c : ℕ) (o : Option Commit) (d : ℕ) → c ≢ d → (refused_commit w c o).views d ≡ w.views d
+others_refused w c None d other = refl
+others_refused w c (Some k) d other = others_filed w c _ d other
+
+others_ended_in : (w : World) (k : Commit) (phase : Phase) (d : ℕ) → k.caller ≢ d → (ended_in w k phase).views d ≡ w.views d
+others_ended_in w k done d other = others_filed w k.caller _ d other
+others_ended_in w k failed d other = others_filed w k.caller _ d other
+others_ended_in w k resolving d other = refl
+others_ended_in w k resolving_sync d other = refl
+others_ended_in w k writing d other = refl
+others_ended_in w k switching d other = refl
+others_ended_in w k switching_sync d other = refl
+
+others_if : (t : Bool) (v w : World) (d : ℕ) → (t ≡ true → v.views d ≡ w.views d) → (cond t v w).views d ≡ w.views d
+others_if true v w d same = same refl
+others_if false v w d same = refl
+
+others_ended : (w : World) (c : ℕ) (o : Option Commit) (d : ℕ) → c ≢ d → (ended w c o).views d ≡ w.views d
+others_ended w c None d other = refl
+others_ended w c (Some k) d other = others_if (k.caller == c) (ended_in w k k.phase) w d (λ t. others_ended_in w k k.phase d (λ same. other (sym (eqb-true k.caller c t) ∙ same)))
+
+others_run : (w : World) (event : Event) (d : ℕ) → whose event ≢ Some d → (run w event).views d ≡ w.views d
+others_run w (calls c call) d other = others_if (is_pass c && is_call call) (called w c call) w d (λ t. others_called w c (entry_of_call c call (answer (tables_now w) call)) d (λ same. other (ap Some same)))
+others_run w (asks_commit c) d other = others_if (is_pass c) (refused_commit w c w.commit) w d (λ t. others_refused w c w.commit d (λ same. other (ap Some same)))
+others_run w (begins c) d other = others_if (is_pass c && is_none w.commit && ltb (number_now w) (2 ^ 32 - 1)) (begun w c) w d (λ t. others_filed w c _ d (λ same. other (ap Some same)))
+others_run w (calls_device call ok) d other = ap (λ views. views d) (seen_worked w w.commit call ok)
+others_run w (ends c) d other = others_ended w c w.commit d (λ same. other (ap Some same))
+others_run w (dies c) d other = refl
+others_run w (crashes which) d other = refl
+others_run w (reopens numbers) d other = refl
+
+pub others : (w : World) (event : Event) (d : ℕ) → w.crash ≡ None → whose event ≢ Some d → (step w event).views d ≡ w.views d
+others w event d up other = ap (λ o. (step_from o w event).views d) up ∙ others_run w event d other

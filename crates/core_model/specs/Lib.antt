@@ -1,0 +1,6 @@
+pub mod Tables
+pub mod Calls
+pub mod History
+pub mod Cuts
+pub mod World
+pub mod Law

@@ -1,0 +1,9 @@
+//! The one-thread table, the histories that it makes legal, and the world of calls, commits, crashes and
+//! reopenings, with its law. No thread and no device is in it: all of it is plain data.
+#![tactic(auto)]
+
+mod call;
+mod laws;
+
+pub use crate::call::{Call, Outcome, Verdict};
+pub use crate::laws::{acknowledged, commits, events, reopening, replies, words, world};
