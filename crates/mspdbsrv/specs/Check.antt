@@ -35,8 +35,8 @@ status_of_read (Err fault.DiskFault) = status.DiskFault
 status_of_read (Err fault.OutOfMemory) = status.OutOfMemory
 
 -- A file was read, and the line of what was read went to the sink: whole, or in part with a write fault.
-pub record IsCheck (tells_file : Bool) (file : List ℕ) (tells_sink : Bool) (taken taken' : List ℕ) (status : Status) : Type 0 where
+pub record IsCheck (tells_file : Bool) (file : List ℕ) (tells_sink : Bool) (taken taken' : List ℕ) (answer : Status) : Type 0 where
   pub read : Result Image OpenFault
   pub told : IsTrue tells_file → Tells (λ image. image) read (read_file file 1048576)
-  pub printed : ((status ≡ status_of_read read) × Went tells_sink (line_of read) taken taken')
-      ⊎ ((status ≡ status.WriteFault) × WentInPart tells_sink (line_of read) taken taken')
+  pub printed : ((answer ≡ status_of_read read) × Went tells_sink (line_of read) taken taken')
+      ⊎ ((answer ≡ status.WriteFault) × WentInPart tells_sink (line_of read) taken taken')

@@ -1,6 +1,6 @@
 //! The command `check`: one line of what a file reads as, or of its first damage.
 
-ghost use Rattle.std.specs.Prelude.{◌≡◌, ◌≤◌, ◌++◌, IfOk, OnOk, codes, decimal};
+ghost use Rattle.std.specs.Prelude.{◌≡◌, ◌≤◌, ◌⊎◌, ◌++◌, IfOk, OnOk, decimal};
 ghost use Rattle.srv_edge.specs.Count.{Rose};
 ghost use Rattle.srv_edge.specs.Disk.{LeavesOnly};
 ghost use Rattle.srv_edge.specs.Stream.{Went, WentInPart};

@@ -2,6 +2,8 @@
 #![tactic(auto)]
 
 mod check;
+#[cfg(test)]
+mod check_tests;
 mod plan;
 mod run;
 mod status;

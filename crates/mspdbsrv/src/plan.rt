@@ -1,4 +1,4 @@
-ghost use Rattle.std.specs.Prelude.{◌≡◌, ◌⊎◌, Ok, Err, Some, None, MatchResult};
+ghost use Rattle.std.specs.Prelude.{◌≡◌, ◌≢◌, ◌⊎◌, Ok, Err, Some, None, MatchResult};
 ghost use Rattle.mspdbsrv.specs.Words.{form_of, is_path};
 ghost use Rattle.mspdbsrv.specs.declared.plan.Usage.TheVariants.{OutOfMemory};
 
@@ -31,7 +31,7 @@ impl From<AllocError> for Usage {
 
 /// The plan that words stand for. The program's own name is not among them.
 pub fn plan_of(alloc: Global, words: &[Word]) -> Result<Plan, Usage>
-    ensures { MatchResult result (λ plan. form_of words.now ≡ Some plan) (λ why. (why ≡ Usage.OutOfMemory) ⊎ ((why ≡ Usage.NotAForm) × (form_of words.now ≡ None))) }
+    ensures { MatchResult result (λ plan. form_of words.now ≡ Some plan) (λ why. ((why ≡ Usage.OutOfMemory) × (form_of words.now ≢ None)) ⊎ ((why ≡ Usage.NotAForm) × (form_of words.now ≡ None))) }
 {
     match words {
         [word] if word.as_str() == "session" => Ok(Plan::Session),

@@ -7,8 +7,9 @@ use crate::status::Status;
 use crate::word::Word;
 use client_session::Bare;
 use request_frames::serve_link;
-use srv_edge::{Failed, Limits, MemLink, MemSink, MemSource, Room, SessionEnd, Sink};
+use srv_edge::{Failed, FileDevice, Limits, MemLink, MemSink, MemSource, Room, SessionEnd, Sink};
 use std::alloc::Global;
+use std::fs::File;
 use std::test::Fail;
 
 // A modifier of type 74 with attribute 1, as an AddType.
@@ -20,6 +21,11 @@ const FIRST: &str = "050000008200100000";
 const TWO: &str = "0d000000020a000110740000000100f2f1 0d000000020a000110740000000100f2f1";
 
 const TWICE: &str = "050000008200100000050000008200100000";
+
+// A device that fails at every call, which a session never asks.
+fn no_file() -> FileDevice<File> {
+    FileDevice::absent()
+}
 
 fn session_words(alloc: Global) -> Result<Vec<Word>, Fail> {
     let mut words = Vec::new(alloc);
@@ -49,7 +55,7 @@ fn talk(
     let mut source = source_of(alloc, input, usize::from(more) + 1, source_fails)?;
     let mut sink = MemSink::new(alloc, Vec::from_slice(alloc, sink_fails)?);
     let words = session_words(alloc)?;
-    let status = run(alloc, &words, &mut source, &mut sink);
+    let status = run(alloc, &words, &mut source, &mut sink, no_file()).0;
     Ok((hex::encode(alloc, sink.taken())?, status))
 }
 
@@ -62,9 +68,20 @@ fn packed(alloc: Global, text: &str) -> Result<String, Fail> {
     Ok(all)
 }
 
-// Each of these inputs has these replies and ends so, also in pieces of a byte and of seven.
+// Whether an input has these replies and ends so, in one piece and in pieces of a byte and of seven.
+fn talks(alloc: Global, input: &str, replies: &str, status: Status) -> Result<bool, Fail> {
+    let want = packed(alloc, replies)?;
+    for more in [255, 0, 6] {
+        let (text, got) = talk(alloc, input, more, &[], &[])?;
+        if text.as_str() != want.as_str() || got != status {
+            return Ok(false);
+        }
+    }
+    Ok(true)
+}
+
 #[test]
-fn talks_by_their_bytes(rt: HostRuntime) -> Result<(), Fail> {
+fn records_by_their_bytes(rt: HostRuntime) -> Result<(), Fail> {
     let rows = [
         // the first record, twice, and the counts
         (
@@ -141,6 +158,16 @@ fn talks_by_their_bytes(rt: HostRuntime) -> Result<(), Fail> {
             "0a000000ff030100000000000000 03000000810100",
             Status::Ok,
         ),
+    ];
+    for (input, replies, status) in rows {
+        assert!(rt; talks(rt.alloc(), input, replies, status)?, "at {input:?}");
+    }
+    Ok(())
+}
+
+#[test]
+fn leaves_by_their_bytes(rt: HostRuntime) -> Result<(), Fail> {
+    let rows = [
         // lists: one that is empty, and one whose count cannot fit
         (
             "09000000020600011200000000",
@@ -180,6 +207,16 @@ fn talks_by_their_bytes(rt: HostRuntime) -> Result<(), Fail> {
             "050000008200100000 050000008201100000",
             Status::Ok,
         ),
+    ];
+    for (input, replies, status) in rows {
+        assert!(rt; talks(rt.alloc(), input, replies, status)?, "at {input:?}");
+    }
+    Ok(())
+}
+
+#[test]
+fn items_and_names_by_their_bytes(rt: HostRuntime) -> Result<(), Fail> {
+    let rows = [
         // an item, one that names a missing type, and an item sent as a type
         (
             "0d000000030a000516000000006100f2f1 050000000600100000 0100000009",
@@ -224,12 +261,7 @@ fn talks_by_their_bytes(rt: HostRuntime) -> Result<(), Fail> {
         ("0d000000020a000110", "", Status::CutShort),
     ];
     for (input, replies, status) in rows {
-        let want = packed(rt.alloc(), replies)?;
-        for more in [255, 0, 6] {
-            let (text, got) = talk(rt.alloc(), input, more, &[], &[])?;
-            assert_eq!(rt; text.as_str(), want.as_str(), "at {input:?}");
-            assert_eq!(rt; got, status, "at {input:?}");
-        }
+        assert!(rt; talks(rt.alloc(), input, replies, status)?, "at {input:?}");
     }
     Ok(())
 }
@@ -265,14 +297,14 @@ fn other_words_are_no_form(rt: HostRuntime) -> Result<(), Fail> {
     let mut source = source_of(rt.alloc(), ADD, 1000, &[])?;
     let mut sink = MemSink::new(rt.alloc(), Vec::new(rt.alloc()));
     let none = Vec::new(rt.alloc());
-    let status = run(rt.alloc(), &none, &mut source, &mut sink);
+    let status = run(rt.alloc(), &none, &mut source, &mut sink, no_file()).0;
     assert_eq!(rt; status, Status::Usage);
     let mut two = session_words(rt.alloc())?;
     two.push(Word::new(String::from_str(rt.alloc(), "P")?))?;
-    let status = run(rt.alloc(), &two, &mut source, &mut sink);
+    let status = run(rt.alloc(), &two, &mut source, &mut sink, no_file()).0;
     assert_eq!(rt; (status, status.code()), (Status::Usage, 2));
     let words = session_words(rt.alloc())?;
-    let status = run(rt.alloc(), &words, &mut source, &mut sink);
+    let status = run(rt.alloc(), &words, &mut source, &mut sink, no_file()).0;
     assert_eq!(rt; (status, status.code()), (Status::Ok, 0));
     assert_eq!(rt; hex::encode(rt.alloc(), sink.taken())?.as_str(), FIRST);
     Ok(())
@@ -406,7 +438,7 @@ fn one_byte_a_give(rt: HostRuntime) -> Result<(), Fail> {
         faults: 0,
     };
     let words = session_words(rt.alloc())?;
-    let status = run(rt.alloc(), &words, &mut source, &mut sink);
+    let status = run(rt.alloc(), &words, &mut source, &mut sink, no_file()).0;
     assert_eq!(rt; status, Status::Ok);
     let text = hex::encode(rt.alloc(), sink.taken.as_slice())?;
     assert_eq!(rt; text.as_str(), TWICE);
@@ -423,7 +455,7 @@ fn longest_record(rt: HostRuntime) -> Result<(), Fail> {
     let mut source = MemSource::new(bytes, 65_536, Vec::new(rt.alloc()));
     let mut sink = MemSink::new(rt.alloc(), Vec::new(rt.alloc()));
     let words = session_words(rt.alloc())?;
-    let status = run(rt.alloc(), &words, &mut source, &mut sink);
+    let status = run(rt.alloc(), &words, &mut source, &mut sink, no_file()).0;
     assert_eq!(rt; status, Status::Ok);
     assert_eq!(rt; hex::encode(rt.alloc(), sink.taken())?.as_str(), FIRST);
     Ok(())
