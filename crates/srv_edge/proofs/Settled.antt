@@ -1,8 +1,8 @@
 -- What the images of a file in memory keep of the file at the last good sync.
-use Rattle.std.proofs.Common.{◌≡◌, ◌≤◌, ◌<◌, ◌+◌, ◌-◌, ◌++◌, ◌⊎◌, inl, inr, ℕ, List, [], ◌∷◌, length, drop, get_or, refl, sym, ◌∙◌, ap, arith}
+use Rattle.std.proofs.Common.{◌≡◌, ◌≤◌, ◌<◌, ◌+◌, ◌-◌, ◌⊎◌, inl, inr, ℕ, List, [], ◌∷◌, length, drop, get_or, refl, ◌∙◌, ap, arith}
 use Rattle.std.proofs.lemmas.List.{get_or-append_right, get_or-drop}
 use Rattle.srv_edge.specs.Disk.{headed, Torn, Whole}
-use Rattle.srv_edge.specs.Replay.{Step, torn, whole, IsImage, IsSpared, KeepsSettled}
+use Rattle.srv_edge.specs.Replay.{Step, torn, whole, IsImage, KeepsSettled}
 use Rattle.srv_edge.proofs.Ranges.{length-headed}
 
 -- a byte behind a head

@@ -63,7 +63,7 @@ pub trait Device {
     /// then one from before in which the range holds any bytes and all bytes outside it stay, and is
     /// no shorter; at and past the old end it holds any bytes (`crash`). After Ok a read gives the
     /// bytes in their range, what it gave before elsewhere, and zeros between the old end and the
-    /// range (`written`).
+    /// range (`written`). It never meets the head (`behind_head`).
     fn write(&mut self, at: u64, bytes: &[u8]) -> Result<(), Failed>
         requires behind_head { 512 ≤ at }
         requires end { at + length bytes.now ≤ 2 ^ 35 }

@@ -173,7 +173,7 @@ fn still_device_with_no_room_for_a_head(rt: HostRuntime) -> Result<(), Fail> {
     Ok(())
 }
 
-// A file of 1,000 bytes that reads and writes one byte a call, and cannot sync.
+// A file of 1,000 bytes that reads and writes one byte a call, and cannot sync its length.
 #[derive(Drop)]
 struct Slow;
 
@@ -205,7 +205,7 @@ impl OpenFile for Slow {
     }
 
     fn sync_data(&self) -> io::Result<()> {
-        Err(io::Error::from(io::ErrorKind::Unsupported))
+        Ok(())
     }
 }
 
