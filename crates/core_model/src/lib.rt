@@ -3,5 +3,8 @@
 #![tactic(auto)]
 
 mod call;
+mod plain;
+mod search;
 
 pub use crate::call::{Call, Outcome, Verdict};
+pub use crate::plain::PlainTable;
