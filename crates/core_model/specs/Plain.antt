@@ -1,5 +1,5 @@
 -- What a plain table needs of a call, and what it keeps.
-use Rattle.std.specs.Prelude.{◌≤◌, ◌-◌, ◌==◌, nat_lt, ℕ, List, [], length, Option, Some, None, if◌then◌else◌}
+use Rattle.std.specs.Prelude.{◌≤◌, ◌-◌, ◌==◌, nat_lt, ℕ, List, [], length, Option, Some, None, IsSome, IsTrue, if◌then◌else◌}
 use Rattle.std.specs.List.{slice_get}
 use Rattle.srv_edge.specs.declared.failed.Limits.{Limits}
 use Rattle.srv_edge.specs.Records.{joined}
@@ -7,7 +7,8 @@ use Rattle.record_table.specs.Table as records
 use Rattle.names_table.specs.Names as strings
 use Rattle.core_model.specs.declared.call.Call.{Call}
 use Rattle.core_model.specs.declared.call.Call.TheVariants.{AddType, AddItem, AddName, GetType, GetItem, GetName, Counts}
-use Rattle.core_model.specs.Tables.{Tables}
+use Rattle.leaf_grammar.specs.declared.grammar.Space.TheVariants.{Types, Items}
+use Rattle.core_model.specs.Tables.{Tables, item_count, record_grows, type_count}
 
 -- the names that a call brings are names
 abbrev pub BringsName : Call → Type 0
@@ -18,6 +19,16 @@ BringsName (GetType index) = Unit {0}
 BringsName (GetItem index) = Unit {0}
 BringsName (GetName offset) = Unit {0}
 BringsName Counts = Unit {0}
+
+-- What may want memory: an add that makes a table grow, and a get that copies what it found.
+abbrev pub MayWant : Tables → Call → Type 0
+MayWant x (AddType r) = IsTrue (record_grows Types x.types (type_count x) (item_count x) r)
+MayWant x (AddItem r) = IsTrue (record_grows Items x.items (type_count x) (item_count x) r)
+MayWant x (AddName name) = IsTrue (strings.appends x.names name)
+MayWant x (GetType index) = IsSome (records.record_at x.types index)
+MayWant x (GetItem index) = IsSome (records.record_at x.items index)
+MayWant x (GetName offset) = IsSome (strings.name_at x.names offset)
+MayWant x Counts = ⊥
 
 -- a table of these records within limits
 abbrev pub table_within : Limits → List (List ℕ) → records.Table
