@@ -1,2 +1,4 @@
+mod Behind
 mod Counting
+mod Places
 mod Searching

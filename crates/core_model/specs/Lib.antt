@@ -5,3 +5,4 @@ pub mod Cuts
 pub mod World
 pub mod Law
 pub mod Plain
+pub mod Replay

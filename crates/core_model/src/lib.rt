@@ -3,8 +3,11 @@
 #![tactic(auto)]
 
 mod call;
+mod passed;
 mod plain;
+mod judge;
 mod search;
 
 pub use crate::call::{Call, Outcome, Verdict};
 pub use crate::plain::PlainTable;
+pub use crate::judge::replay;

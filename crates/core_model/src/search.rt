@@ -19,6 +19,18 @@ pub(crate) fn place_of(records: &RecordList, bytes: &[u8]) -> Option<u32>
     None
 }
 
+/// The place of the first name that equals this one.
+pub(crate) fn place_of_name(names: &[Text], name: &[u8]) -> Option<usize>
+    ensures { result ≡ place_of names.now name.now }
+{
+    for (place, known) in names.iter().enumerate() {
+        if known.bytes() == name {
+            return Some(place);
+        }
+    }
+    None
+}
+
 /// Where the first name begins that equals this one.
 pub(crate) fn offset_of(names: &[Text], name: &[u8]) -> Option<u32>
     requires { bytes_of names.now < 2 ^ 32 }

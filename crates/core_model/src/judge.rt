@@ -1,0 +1,47 @@
+ghost use Rattle.std.specs.Prelude.{◌≡◌, ◌<◌, ◌^◌, ◌↔◌, length};
+ghost use Rattle.core_model.specs.Replay.{IfIllegal, IsFirstWrong, LeadsToTheEnd, started};
+
+use crate::call::Verdict;
+use crate::passed::{Passed, behind, is_end};
+use srv_edge::{RecordList, Text};
+
+/// Judges whether words are a legal history that leads from the first types, items and names, as many as
+/// `start` says, to the whole lists. It takes no memory.
+///
+/// Of what a word cannot show it says nothing: that a record that was added is a leaf whose fields name
+/// records, that a limit was met, and which number the first commit has.
+///
+/// For each added record and name it searches its list from the front, so the time is as the number of adds
+/// times the length of the list; a word of another kind takes the same time everywhere.
+pub fn replay(
+    types: &RecordList,
+    items: &RecordList,
+    names: &[Text],
+    start: (u32, u32, u32),
+    words: &[u64],
+) -> Verdict
+    requires { length words.now < 2 ^ 32 }
+    ensures legal { result ≡ Verdict.Legal ↔ LeadsToTheEnd (record { types = types.now; items = items.now; names = names.now }) (started start) words.now }
+    ensures least { IfIllegal result (IsFirstWrong (record { types = types.now; items = items.now; names = names.now }) (started start) words.now) }
+{
+    let mut passed = Passed {
+        types: start.0,
+        items: start.1,
+        names: start.2 as usize,
+        last: None,
+        under_way: None,
+    };
+    for (at, word) in words.iter().enumerate() {
+        match behind(types, items, names, passed, *word) {
+            Some(further) => passed = further,
+            None => return Verdict::Illegal { at: at as u32 },
+        }
+    }
+    if is_end(types, items, names, passed) {
+        Verdict::Legal
+    } else {
+        Verdict::Illegal {
+            at: words.len() as u32,
+        }
+    }
+}
