@@ -3,11 +3,13 @@
 #![tactic(auto)]
 
 mod call;
+mod judge;
 mod passed;
 mod plain;
-mod judge;
 mod search;
+#[cfg(test)]
+mod tests;
 
 pub use crate::call::{Call, Outcome, Verdict};
-pub use crate::plain::PlainTable;
 pub use crate::judge::replay;
+pub use crate::plain::PlainTable;

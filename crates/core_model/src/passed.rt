@@ -51,12 +51,7 @@ pub(crate) fn behind(
 }
 
 /// Whether the lists that are there are the final ones.
-pub(crate) fn is_end(
-    types: &RecordList,
-    items: &RecordList,
-    names: &[Text],
-    passed: Passed,
-) -> bool
+pub(crate) fn is_end(types: &RecordList, items: &RecordList, names: &[Text], passed: Passed) -> bool
     ensures { result ≡ is_end (record { types = types.now; items = items.now; names = names.now }) passed }
 {
     passed.types == types.len() && passed.items == items.len() && passed.names == names.len()
@@ -137,7 +132,11 @@ fn place_of_offset(names: &[Text], offset: u32) -> Option<usize>
             return None;
         }
         if start == wanted {
-            return if name.bytes().is_empty() { None } else { Some(place) };
+            return if name.bytes().is_empty() {
+                None
+            } else {
+                Some(place)
+            };
         }
         start += name.bytes().len() as u64 + 1;
     }

@@ -66,11 +66,25 @@ impl PlainTable {
         match call {
             Call::AddType(record) => {
                 let record = record.bytes();
-                add_record(Space::Types, &mut self.types, self.limits, types, items, record)
+                add_record(
+                    Space::Types,
+                    &mut self.types,
+                    self.limits,
+                    types,
+                    items,
+                    record,
+                )
             }
             Call::AddItem(record) => {
                 let record = record.bytes();
-                add_record(Space::Items, &mut self.items, self.limits, types, items, record)
+                add_record(
+                    Space::Items,
+                    &mut self.items,
+                    self.limits,
+                    types,
+                    items,
+                    record,
+                )
             }
             Call::AddName(name) => add_name(self.alloc, &mut self.names, self.limits, name.bytes()),
             Call::GetType(index) => get_record(self.alloc, &self.types, 0, *index),

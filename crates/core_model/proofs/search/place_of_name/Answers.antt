@@ -10,7 +10,7 @@ returns-then-eq c =
     let x = c.index-names-place.result in
     let name = c.args.name.now in
     sym (place_of-here names c.loop-place.place x name c.loop-place.invariant (name-here names c.loop-place.place x c.loop-place-test.true c.index-names-place.is)
-      (ap (λ z. bytes_eq z name) (sym c.bytes.ensures) ∙ sym c.if-eq.ensures))
+    (ap (λ z. bytes_eq z name) (sym c.bytes.ensures) ∙ sym c.if-eq.ensures))
 
 pub loop-place-preserved : goal.loop-place-preserved
 loop-place-preserved c =
