@@ -2,3 +2,18 @@ mod Behind
 mod Counting
 mod Places
 mod Searching
+pub mod Growing
+mod Missing
+pub mod Records
+pub mod Strings
+pub mod Answered
+pub mod Sound
+pub mod Filing
+pub mod Allowed
+mod Holding
+mod Running
+mod Later
+pub mod Replying
+pub mod Acknowledging
+pub mod Extending
+mod Smooth

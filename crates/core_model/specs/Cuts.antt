@@ -24,7 +24,7 @@ cut_at b before number = record { number = number; tables = after b before }
 abbrev pub AcknowledgesNoOther : ℕ → List Entry → Type 0
 AcknowledgesNoOther number entries = All (λ e. (m : ℕ) → deed_of e.word ≡ Some (Ended m true) → m ≡ number) entries
 
--- the cut of a commit that began at this entry
+-- the cut of a commit that began at an entry of these, with no other commit acknowledged behind that
 pub record BeganAt (b : Basis) (entries : List Entry) (c : Cut) : Type 0 where
   pub before : List Entry
   pub began : Entry
@@ -34,7 +34,17 @@ pub record BeganAt (b : Basis) (entries : List Entry) (c : Cut) : Type 0 where
   pub tables : c.tables ≡ after b before
   pub newest : AcknowledgesNoOther c.number rest
 
--- A cut that is not older than the last acknowledged one: the one that was opened, or that of a commit,
--- with no acknowledged commit behind it but itself.
+-- A cut that is not older than the last acknowledged one: the cut that was opened, while no commit is acknowledged; or
+-- that of a commit, while none behind it is.
 abbrev pub IsAllowed : Basis → List Entry → Cut → Type 0
 IsAllowed b entries c = ((c ≡ opened b) × AcknowledgesNoOther c.number entries) ⊎ BeganAt b entries c
+
+-- The long list begins with the short one.
+abbrev pub StartsWith : List (List ℕ) → List (List ℕ) → Type 0
+StartsWith short long = (more : List (List ℕ)) × (long ≡ short ++ more)
+
+-- tables that hold what others hold, at the same indices and offsets, and maybe more
+pub record Extends (short long : Tables) : Type 0 where
+  pub types : StartsWith short.types.records long.types.records
+  pub items : StartsWith short.items.records long.items.records
+  pub names : StartsWith short.names.names long.names.names

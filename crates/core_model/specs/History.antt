@@ -50,7 +50,7 @@ abbrev pub opened_tables : Basis → Tables
 opened_tables b = record {
   types = table_of b b.types;
   items = table_of b b.items;
-  names = record { max_bytes = most_name_bytes b; version = names_version b; names = b.names }
+  names = record { max_bytes = most_name_bytes b; version = names_version b; names = b.names };
 }
 
 -- a commit that has begun and has not ended: whose it is, and its number

@@ -1,6 +1,6 @@
 -- The world: callers, one history, one commit at a time, and the file as crashes may leave it. Each event is
 -- a step from one state to the next; an event whose condition does not hold changes nothing.
-use Rattle.std.specs.Prelude.{◌+◌, ◌-◌, ◌^◌, ◌==◌, ◌&&◌, ℕ, zero, suc, nat_lt, Bool, true, false, is_none, List, [], ◌∷◌, ◌++◌, length, Option, Some, None, Result, Ok, Err, if◌then◌else◌}
+use Rattle.std.specs.Prelude.{◌≡◌, ◌+◌, ◌-◌, ◌^◌, ◌==◌, ◌&&◌, ℕ, zero, suc, nat_lt, Bool, true, false, is_none, List, [], ◌∷◌, ◌++◌, length, Option, Some, None, Result, Ok, Err, if◌then◌else◌}
 use Rattle.srv_edge.specs.declared.failed.Refusal.{Refusal}
 use Rattle.srv_edge.specs.declared.failed.Refusal.TheVariants as refusal
 use Rattle.turnstile.specs.declared.history.Entry.{Entry}
@@ -62,12 +62,13 @@ pub record View : Type 0 where
   pub seen : List Entry
   pub mine : List Entry
 
--- The file: settled on one cut, or in doubt between that cut and a pending one. A crash leaves one of these.
+-- The file: settled on one cut, or in doubt between the cut that it was settled on and a pending one. A crash leaves
+-- one of these.
 pub data File : Type 0 where
   settled : Cut → File
   doubt : Cut → Cut → File
 
--- which of the cuts of a file a crash leaves
+-- which of the cuts of a file a crash leaves: the one that it was settled on, or the pending one
 pub data Which : Type 0 where
   older : Which
   pending : Which
@@ -77,6 +78,10 @@ left (settled x) older = Some x
 left (settled x) pending = None
 left (doubt x p) older = Some x
 left (doubt x p) pending = Some p
+
+-- a crash may leave this cut
+abbrev pub MayLeave : File → Cut → Type 0
+MayLeave file c = (which : Which) × (left file which ≡ Some c)
 
 -- the cut on which the file certainly stands
 abbrev pub sure : File → Cut
@@ -118,8 +123,8 @@ pub record Progress : Type 0 where
 abbrev pub at_phase : File → Phase → Option Progress
 at_phase file phase = Some (record { file = file; phase = phase })
 
--- What a device call makes of the file and of the phase of a commit of this cut, where the phase has that call. The flag tells
--- whether it was done or failed.
+-- What a device call makes of the file, and of the phase of a commit of this cut, where the phase has that call.
+-- The flag tells whether the call was done or failed. A superblock write that failed may still have come to the disk.
 abbrev pub progress : Cut → File → Phase → DeviceCall → Bool → Option Progress
 progress new file resolving write_super true = at_phase file resolving_sync
 progress new file resolving write_super false = at_phase file failed
@@ -167,7 +172,7 @@ looked w c = record w { views = with_view w.views c (record { seen = w.history; 
 abbrev pub filed : World → ℕ → Entry → World
 filed w c e = record w {
   history = w.history ++ e ∷ [];
-  views = with_view w.views c (record { seen = w.history ++ e ∷ []; mine = (w.views c).mine ++ e ∷ [] })
+  views = with_view w.views c (record { seen = w.history ++ e ∷ []; mine = (w.views c).mine ++ e ∷ [] });
 }
 
 abbrev pub filed_or_looked : World → ℕ → Option Entry → World
@@ -182,7 +187,8 @@ tables_now w = after w.basis w.history
 abbrev pub called : World → ℕ → Call → World
 called w c call = filed_or_looked w c (entry_of_call c call (answer (tables_now w) call))
 
--- a commit that is asked while one is under way
+-- A commit that is asked while one is under way is refused, and has an entry. Asked while none is, it begins, which is
+-- an event of its own.
 abbrev pub refused_commit : World → ℕ → Option Commit → World
 refused_commit w c None = w
 refused_commit w c (Some commit) = filed w c (entry_of c (Underway commit.cut.number) [])
@@ -198,10 +204,10 @@ first_phase (doubt x p) = resolving
 -- a commit of the tables as they stand, under the next number
 abbrev pub begun : World → ℕ → World
 begun w c = record (filed w c (entry_of c (Began (number_now w + 1)) [])) {
-  commit = Some (record { caller = c; cut = cut_at w.basis w.history (number_now w + 1); phase = first_phase w.file })
+  commit = Some (record { caller = c; cut = cut_at w.basis w.history (number_now w + 1); phase = first_phase w.file });
 }
 
--- what a device call of the commit makes of the world, where its phase has that call
+-- What a device call of the commit makes of the world. A call that its phase does not have changes nothing.
 abbrev pub progressed : World → Commit → Option Progress → World
 progressed w commit None = w
 progressed w commit (Some p) = record w { file = p.file; commit = Some (record commit { phase = p.phase }) }
@@ -226,11 +232,11 @@ basis_of b c others = record {
   numbers = c.number ∷ most_records b ∷ most_bytes b ∷ most_name_bytes b ∷ most_calls b ∷ most_blocks b ∷ names_version b ∷ others;
   types = c.tables.types.records;
   items = c.tables.items.records;
-  names = c.tables.names.names
+  names = c.tables.names.names;
 }
 
--- what happens: a call of a pass, a commit asked by one, begun by one, a device call of the commit under way that is done
--- or fails, the end of a pass's commit, the death of a pass's client, a crash, and the file opened again
+-- What happens: a call of a pass; a commit that a pass asks for, or begins; a device call of the commit under way,
+-- which is done or fails; the end of a pass's commit; the death of a pass's client; a crash; the file opened again.
 pub data Event : Type 0 where
   calls : ℕ → Call → Event
   asks_commit : ℕ → Event
@@ -240,6 +246,17 @@ pub data Event : Type 0 where
   dies : ℕ → Event
   crashes : Which → Event
   reopens : List ℕ → Event
+
+-- the pass whose event it is, if it is one of a pass
+abbrev pub whose : Event → Option ℕ
+whose (calls c call) = Some c
+whose (asks_commit c) = Some c
+whose (begins c) = Some c
+whose (calls_device call ok) = None
+whose (ends c) = Some c
+whose (dies c) = Some c
+whose (crashes which) = None
+whose (reopens others) = None
 
 -- the step of an event, where no crash has come
 abbrev pub run : World → Event → World

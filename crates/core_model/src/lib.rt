@@ -4,6 +4,7 @@
 
 mod call;
 mod judge;
+mod laws;
 mod passed;
 mod plain;
 mod search;
@@ -12,4 +13,5 @@ mod tests;
 
 pub use crate::call::{Call, Outcome, Verdict};
 pub use crate::judge::replay;
+pub use crate::laws::{acknowledged, commits, events, reopening, replies, words, world};
 pub use crate::plain::PlainTable;

@@ -1,0 +1,110 @@
+-- What the callers have seen and what the file may hold, from one event to the next.
+use Rattle.std.proofs.Common.{◌≡◌, ◌≢◌, ◌-◌, ◌^◌, ◌==◌, ℕ, Bool, true, false, cond, ltb, [], ◌∷◌, ◌++◌, Option, Some, None, refl, sym, subst}
+use Rattle.std.specs.Prelude.{◌&&◌, is_none}
+use Rattle.turnstile.specs.declared.history.Entry.{Entry}
+use Rattle.turnstile.specs.Histories.{Begins}
+use Rattle.turnstile.proofs.Beginnings.{begins_more, begins_self}
+use Rattle.core_model.specs.Calls.{answer, is_call}
+use Rattle.core_model.specs.Cuts.{Cut}
+use Rattle.core_model.specs.World.{Commit, DeviceCall, Event, MayLeave, Phase, Progress, World, begun, called, ended, ended_in, entry_of_call, filed, filed_or_looked, is_pass, looked, number_now, progress, progressed, refused_commit, run, step, step_from, tables_now, worked}
+use Rattle.core_model.specs.World.{resolving, resolving_sync, writing, switching, switching_sync, done, failed, sync, calls, asks_commit, begins, calls_device, ends, dies, crashes, reopens}
+use Rattle.core_model.proofs.Holding.{IsUnderWay, changed_view, is_progress}
+use Rattle.core_model.proofs.Running.{Holds, under_way}
+
+-- each caller has seen what it had seen, and maybe more; and the file is the same
+record IsLater (w v : World) : Type 0 where
+  seen : (c : ℕ) → Begins (w.views c).seen (v.views c).seen
+  file : v.file ≡ w.file
+
+later_self : (w : World) → IsLater w w
+later_self w = record { seen = λ c. begins_self (w.views c).seen; file = refl }
+
+later_looked : (w : World) (c : ℕ) → Holds w → IsLater w (looked w c)
+later_looked w c h = record {
+  seen = changed_view (λ d v. Begins (w.views d).seen v.seen) w.views c (record { seen = w.history; mine = (w.views c).mine }) (h.kept.each c).seen (λ d other. begins_self (w.views d).seen);
+  file = refl;
+}
+
+later_filed : (w : World) (c : ℕ) (e : Entry) → Holds w → IsLater w (filed w c e)
+later_filed w c e h = record {
+  seen = changed_view (λ d v. Begins (w.views d).seen v.seen) w.views c (record { seen = w.history ++ e ∷ []; mine = (w.views c).mine ++ e ∷ [] }) (begins_more (w.views c).seen w.history e (h.kept.each c).seen) (λ d other. begins_self (w.views d).seen);
+  file = refl;
+}
+
+later_called : (w : World) (c : ℕ) (o : Option Entry) → Holds w → IsLater w (filed_or_looked w c o)
+later_called w c None h = later_looked w c h
+later_called w c (Some e) h = later_filed w c e h
+
+later_refused : (w : World) (c : ℕ) (o : Option Commit) → Holds w → IsLater w (refused_commit w c o)
+later_refused w c None h = later_self w
+later_refused w c (Some k) h = later_filed w c _ h
+
+later_begun : (w : World) (c : ℕ) → Holds w → IsLater w (begun w c)
+later_begun w c h = let l = later_filed w c _ h in record { seen = l.seen; file = refl }
+
+later_ended_in : (w : World) (k : Commit) (phase : Phase) → Holds w → IsLater w (ended_in w k phase)
+later_ended_in w k done h = let l = later_filed w k.caller _ h in record { seen = l.seen; file = refl }
+later_ended_in w k failed h = let l = later_filed w k.caller _ h in record { seen = l.seen; file = refl }
+later_ended_in w k resolving h = later_self w
+later_ended_in w k resolving_sync h = later_self w
+later_ended_in w k writing h = later_self w
+later_ended_in w k switching h = later_self w
+later_ended_in w k switching_sync h = later_self w
+
+later_if : (t : Bool) (v w : World) → IsLater w v → IsLater w (cond t v w)
+later_if true v w l = l
+later_if false v w l = later_self w
+
+later_ended : (w : World) (c : ℕ) (o : Option Commit) → Holds w → IsLater w (ended w c o)
+later_ended w c None h = later_self w
+later_ended w c (Some k) h = later_if (k.caller == c) (ended_in w k k.phase) w (later_ended_in w k k.phase h)
+
+-- the views alone
+seen_progressed : (w : World) (k : Commit) (o : Option Progress) → (progressed w k o).views ≡ w.views
+seen_progressed w k None = refl
+seen_progressed w k (Some p) = refl
+
+seen_worked : (w : World) (o : Option Commit) (call : DeviceCall) (ok : Bool) → (worked w o call ok).views ≡ w.views
+seen_worked w None call ok = refl
+seen_worked w (Some k) call ok = seen_progressed w k (progress k.cut w.file k.phase call ok)
+
+order_run : (w : World) (event : Event) (c : ℕ) → Holds w → Begins (w.views c).seen ((run w event).views c).seen
+order_run w (calls d call) c h = (later_if (is_pass d && is_call call) (called w d call) w (later_called w d (entry_of_call d call (answer (tables_now w) call)) h)).seen c
+order_run w (asks_commit d) c h = (later_if (is_pass d) (refused_commit w d w.commit) w (later_refused w d w.commit h)).seen c
+order_run w (begins d) c h = (later_if (is_pass d && is_none w.commit && ltb (number_now w) (2 ^ 32 - 1)) (begun w d) w (later_begun w d h)).seen c
+order_run w (calls_device call ok) c h = subst (λ views. Begins (w.views c).seen (views c).seen) (sym (seen_worked w w.commit call ok)) (begins_self (w.views c).seen)
+order_run w (ends d) c h = (later_ended w d w.commit h).seen c
+order_run w (dies d) c h = begins_self (w.views c).seen
+order_run w (crashes which) c h = begins_self (w.views c).seen
+order_run w (reopens others) c h = begins_self (w.views c).seen
+
+-- what a caller has seen begins what it sees behind an event
+pub in_order : (w : World) (event : Event) (c : ℕ) → w.crash ≡ None → Holds w → Begins (w.views c).seen ((step w event).views c).seen
+in_order w event c up h = subst (λ o. Begins (w.views c).seen ((step_from o w event).views c).seen) (sym up) (order_run w event c h)
+
+-- the file
+
+kept_cut : (w v : World) (c : Cut) → IsLater w v → MayLeave w.file c → MayLeave v.file c
+kept_cut w v c l may = subst (λ f. MayLeave f c) (sym l.file) may
+
+stays_progressed : (w : World) (k : Commit) (call : DeviceCall) (ok : Bool) (c : Cut) (o : Option Progress) → progress k.cut w.file k.phase call ok ≡ o → ((call ≡ sync) × (ok ≡ true) → ⊥) → IsUnderWay w.basis w.history k w.file → MayLeave w.file c → MayLeave (progressed w k o).file c
+stays_progressed w k call ok c None eq other u may = may
+stays_progressed w k call ok c (Some p) eq other u may = (is_progress k.cut w.file k.phase call ok p u.stands eq).stays other c may
+
+stays_worked : (w : World) (call : DeviceCall) (ok : Bool) (c : Cut) (o : Option Commit) → w.commit ≡ o → ((call ≡ sync) × (ok ≡ true) → ⊥) → Holds w → MayLeave w.file c → MayLeave (worked w o call ok).file c
+stays_worked w call ok c None is other h may = may
+stays_worked w call ok c (Some k) is other h may = stays_progressed w k call ok c (progress k.cut w.file k.phase call ok) refl other (under_way w k is h) may
+
+stays_run : (w : World) (event : Event) (c : Cut) → event ≢ calls_device sync true → Holds w → MayLeave w.file c → MayLeave (run w event).file c
+stays_run w (calls d call) c other h may = kept_cut w (run w (calls d call)) c (later_if (is_pass d && is_call call) (called w d call) w (later_called w d (entry_of_call d call (answer (tables_now w) call)) h)) may
+stays_run w (asks_commit d) c other h may = kept_cut w (run w (asks_commit d)) c (later_if (is_pass d) (refused_commit w d w.commit) w (later_refused w d w.commit h)) may
+stays_run w (begins d) c other h may = kept_cut w (run w (begins d)) c (later_if (is_pass d && is_none w.commit && ltb (number_now w) (2 ^ 32 - 1)) (begun w d) w (later_begun w d h)) may
+stays_run w (calls_device call ok) c other h may = stays_worked w call ok c w.commit refl (λ p. let a : call ≡ sync = p.0 in let b : ok ≡ true = p.1 in other (cc)) h may
+stays_run w (ends d) c other h may = kept_cut w (run w (ends d)) c (later_ended w d w.commit h) may
+stays_run w (dies d) c other h may = may
+stays_run w (crashes which) c other h may = may
+stays_run w (reopens others) c other h may = may
+
+-- what a crash may leave stays so, unless a sync is done
+pub stays : (w : World) (event : Event) (c : Cut) → w.crash ≡ None → event ≢ calls_device sync true → Holds w → MayLeave w.file c → MayLeave (step w event).file c
+stays w event c up other h may = subst (λ o. MayLeave (step_from o w event).file c) (sym up) (stays_run w event c other h may)

@@ -1,0 +1,19 @@
+use Rattle.core_model.proofs.Growing.{legal_nothing}
+use Rattle.core_model.proofs.Running.{holds_always, reopened_cut, reopened_file, reopened_start}
+use Rattle.core_model.specs.World.{world_after}
+use Rattle.core_model.proofs.laws.reopening.Goals as goal
+
+pub returns-clause-allowed : goal.returns-clause-allowed
+returns-clause-allowed c = λ b events start cut others is. (holds_always b events start).crash cut is
+
+pub returns-clause-opened : goal.returns-clause-opened
+returns-clause-opened c = λ b events start cut others is. reopened_cut (world_after b events) cut others is (holds_always b events start)
+
+pub returns-clause-settled : goal.returns-clause-settled
+returns-clause-settled c = λ b events start cut others is. reopened_file (world_after b events) cut others is (holds_always b events start)
+
+pub returns-clause-starts : goal.returns-clause-starts
+returns-clause-starts c = λ b events start cut others is. reopened_start (world_after b events) cut others is (holds_always b events start)
+
+pub returns-clause-legal : goal.returns-clause-legal
+returns-clause-legal c = legal_nothing

@@ -1,0 +1,91 @@
+//! The law of the world, and smaller laws that show what its words mean. docs/HISTORY.md tells them in plain
+//! words. Each is a function that does nothing: what it promises is proved of the definitions alone.
+ghost use Rattle.std.specs.Prelude.{◌≡◌, ◌≢◌, ◌≤◌, ◌<◌, ◌^◌, ◌+◌, ◌-◌, ◌/◌, ℕ, Bool, true, List, [], ◌∷◌, ◌++◌, Option, Some, Ok};
+ghost use Rattle.turnstile.specs.declared.history.Basis.{Basis};
+ghost use Rattle.turnstile.specs.declared.history.Entry.{Entry};
+ghost use Rattle.turnstile.specs.Histories.{Begins, caller, calls_by};
+ghost use Rattle.call_journal.specs.declared.deed.Deed.{Deed};
+ghost use Rattle.call_journal.specs.declared.deed.Deed.TheVariants.{Added, Began, Ended};
+ghost use Rattle.call_journal.specs.declared.deed.TableKind.{TableKind};
+ghost use Rattle.call_journal.specs.Words.{IsDeed, deed_of, word_of};
+ghost use Rattle.core_model.specs.declared.call.Outcome.TheVariants.{Index};
+ghost use Rattle.core_model.specs.Calls.{answer, tables_after};
+ghost use Rattle.core_model.specs.Cuts.{AcknowledgesNoOther, BeganAt, Cut, Extends, IsAllowed, cut_at, opened};
+ghost use Rattle.core_model.specs.History.{IsLegal, IsStart, after, age_of};
+ghost use Rattle.core_model.specs.Law.{AfterCrash, Always, EachAcknowledged, EachAdd, EachCall, EachCommit, EachEvent, IsAcknowledged, add_to, entries_of, smooth_commit};
+ghost use Rattle.core_model.specs.World.{Event, MayLeave, calls, calls_device, done, entry_of, settled, step, switching, sync, whose, world_after, write_super};
+
+/// The law. After any events, from any file that can be opened: the history is legal; what a pass has seen is
+/// a beginning of it; the pass's own calls are those of its number there, each once and in order; and what a
+/// crash may leave is never older than the last acknowledged commit.
+pub fn world()
+    ensures legal { Always (λ w. IsLegal w.basis w.history) }
+    ensures seen { Always (λ w. (c : ℕ) → Begins (w.views c).seen w.history) }
+    ensures mine { Always (λ w. (c : ℕ) → (w.views c).mine ≡ calls_by c (w.views c).seen) }
+    ensures once { Always (λ w. (c : ℕ) → (w.views c).mine ≡ calls_by c w.history) }
+    ensures crash { Always (λ w. (c : Cut) → MayLeave w.file c → IsAllowed w.basis w.history c) }
+{}
+
+/// What an event does. A call is answered by the tables as they stand, and its entry, if it has one, comes
+/// last in the history and among the pass's own calls. What a pass has seen is a beginning of what it sees
+/// later. An event that is none of a pass's own changes nothing of what it has seen and of its calls.
+pub fn events()
+    ensures answered { EachCall (λ w c call. (step w (calls c call)).history ≡ w.history ++ entries_of w c call) }
+    ensures own { EachCall (λ w c call. ((step w (calls c call)).views c).mine ≡ (w.views c).mine ++ entries_of w c call) }
+    ensures sees { EachCall (λ w c call. ((step w (calls c call)).views c).seen ≡ (step w (calls c call)).history) }
+    ensures order { EachEvent (λ w event c. Begins (w.views c).seen ((step w event).views c).seen) }
+    ensures others { EachEvent (λ w event c. whose event ≢ Some c → (step w event).views c ≡ w.views c) }
+{}
+
+/// What a commit does. The one under way has the tables of where it began. When its superblock is written, a
+/// crash may leave its cut, also where that write fails; what a crash may leave stays so until a sync is done; and
+/// once the commit is done, a crash leaves nothing but its cut. A commit that meets no failure is acknowledged.
+pub fn commits()
+    ensures begun { EachCommit (λ w k. BeganAt w.basis w.history k.cut) }
+    ensures comes { EachCommit (λ w k. k.phase ≡ switching → w.crash ≡ None → (ok : Bool) → MayLeave (step w (calls_device write_super ok)).file k.cut) }
+    ensures stays { Always (λ w. (event : Event) (c : Cut) → w.crash ≡ None → event ≢ calls_device sync true → MayLeave w.file c → MayLeave (step w event).file c) }
+    ensures certain { EachCommit (λ w k. k.phase ≡ done → w.file ≡ settled k.cut) }
+    ensures succeeds { (b : Basis) (c : ℕ) → age_of b < 2 ^ 32 - 1 → c < 255 → (world_after b (smooth_commit c)).history ≡ entry_of c (Began (age_of b + 1)) [] ∷ entry_of c (Ended (age_of b + 1) true) [] ∷ [] }
+{}
+
+/// What a crash and the opening after it leave: a cut that was allowed, a file that is settled on it, and an
+/// empty history, which is legal. A file with no records and no names can be opened.
+pub fn reopening()
+    ensures allowed { AfterCrash (λ w c next. IsAllowed w.basis w.history c) }
+    ensures opened { AfterCrash (λ w c next. opened next.basis ≡ c) }
+    ensures settled { AfterCrash (λ w c next. next.file ≡ settled c) }
+    ensures empty { AfterCrash (λ w c next. next.history ≡ []) }
+    ensures starts { AfterCrash (λ w c next. IsStart next.basis) }
+    ensures legal { (b : Basis) → IsLegal b [] }
+    ensures new_file { IsStart (record { numbers = 1 ∷ 2 ^ 23 ∷ 2 ^ 30 ∷ 2 ^ 28 ∷ []; types = []; items = []; names = [] }) }
+{}
+
+/// A legal history: each beginning of it is legal; an add that was answered has the answer of the one-thread
+/// table, and leaves that table's tables, as no other entry changes them; and adds of equal bytes to one table
+/// have one answer.
+pub fn replies()
+    ensures beginnings { (b : Basis) (short long : List Entry) → IsLegal b long → Begins short long → IsLegal b short }
+    ensures reply { EachAdd (λ b before e table at. answer (after b before) (add_to table e.brought) ≡ Ok (Index at)) }
+    ensures tables { EachAdd (λ b before e table at. after b (before ++ e ∷ []) ≡ tables_after (after b before) (add_to table e.brought)) }
+    ensures no_others { (b : Basis) (before : List Entry) (e : Entry) → ((table : TableKind) (at : ℕ) → deed_of e.word ≢ Some (Added table at)) → after b (before ++ e ∷ []) ≡ after b before }
+    ensures one_index { EachAdd (λ b before e table at. (front back : List Entry) (d : Entry) (i : ℕ) → before ≡ front ++ d ∷ back → deed_of d.word ≡ Some (Added table i) → d.brought ≡ e.brought → i ≡ at) }
+{}
+
+/// Journal words: a word tells its caller and its deed, and it is the only word of that caller that tells this deed.
+pub fn words()
+    ensures deed { (c : ℕ) (deed : Deed) → IsDeed deed → deed_of (word_of c deed) ≡ Some deed }
+    ensures caller { (c : ℕ) (deed : Deed) (bytes : List ℕ) → IsDeed deed → caller (entry_of c deed bytes) ≡ c }
+    ensures bits { (c : ℕ) (deed : Deed) → c < 256 → IsDeed deed → word_of c deed < 2 ^ 64 }
+    ensures only { (word : ℕ) (deed : Deed) → word < 2 ^ 64 → deed_of word ≡ Some deed → word ≡ word_of (word / 2 ^ 56) deed }
+{}
+
+/// Acknowledged commits of a legal history. Each began in it. Its cut is allowed until another is acknowledged; no
+/// allowed cut has a smaller number, and each holds all that the tables held where it began. So whatever a crash
+/// may leave has all that an acknowledged commit wrote.
+pub fn acknowledged()
+    ensures began { (b : Basis) (before rest : List Entry) (e : Entry) (n : ℕ) → IsLegal b (before ++ e ∷ rest) → deed_of e.word ≡ Some (Ended n true) → (front : List Entry) × IsAcknowledged (before ++ e ∷ rest) front n }
+    ensures allowed { EachAcknowledged (λ b history front n rest. AcknowledgesNoOther n rest → IsAllowed b history (cut_at b front n)) }
+    ensures newest { EachAcknowledged (λ b history front n rest. (c : Cut) → IsAllowed b history c → n ≤ c.number) }
+    ensures nothing_lost { EachAcknowledged (λ b history front n rest. (c : Cut) → IsAllowed b history c → Extends (after b front) c.tables) }
+    ensures survives { Always (λ w. (front : List Entry) (n : ℕ) (c : Cut) → IsAcknowledged w.history front n → MayLeave w.file c → Extends (after w.basis front) c.tables) }
+{}
