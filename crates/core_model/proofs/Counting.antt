@@ -12,7 +12,7 @@ length-le [] = omega arith
 length-le (x ∷ names) = omega (arith, length-le names)
 
 -- the first byte is the NUL of the empty name
-some-bytes : (names : List (List ℕ)) → 1 ≤ bytes_of names
+pub some-bytes : (names : List (List ℕ)) → 1 ≤ bytes_of names
 some-bytes [] = omega arith
 some-bytes (x ∷ names) = omega (arith, some-bytes names)
 

@@ -17,3 +17,5 @@ pub mod Replying
 pub mod Acknowledging
 pub mod Extending
 mod Smooth
+mod Replaying
+mod Leading

@@ -3,6 +3,8 @@ use Rattle.std.specs.Prelude.{◌≡◌, ◌+◌, ◌-◌, ◌/◌, ◌==◌, �
 use Rattle.std.specs.List.{slice_get}
 use Rattle.std.specs.Option.{option_map}
 use Rattle.record_table.specs.Table.{index_at, place_of}
+use Rattle.turnstile.specs.declared.history.Basis.{Basis}
+use Rattle.turnstile.specs.declared.history.Entry.{Entry}
 use Rattle.call_journal.specs.declared.deed.TableKind.{TableKind}
 use Rattle.call_journal.specs.declared.deed.TableKind.TheVariants.{Types, Items, Names}
 use Rattle.call_journal.specs.declared.deed.Limit.{Limit}
@@ -14,6 +16,7 @@ use Rattle.core_model.specs.declared.call.Verdict.{Verdict}
 use Rattle.core_model.specs.declared.call.Verdict.TheVariants.{Legal, Illegal}
 use Rattle.core_model.specs.declared.passed.CommitOpen.{CommitOpen}
 use Rattle.core_model.specs.declared.passed.Passed.{Passed}
+use Rattle.core_model.specs.Tables.{Tables}
 
 -- the final lists
 pub record Lists : Type 0 where
@@ -150,3 +153,16 @@ pub record IsFirstWrong (lists : Lists) (start : Passed) (words : List ℕ) (pla
 abbrev pub IfIllegal : Verdict → (ℕ → Type 0) → Type 0
 IfIllegal Legal P = Unit {0}
 IfIllegal (Illegal at) P = P at
+
+-- the lists of tables
+abbrev pub lists_of : Tables → Lists
+lists_of x = record { types = x.types.records; items = x.items.records; names = x.names.names }
+
+-- how many types, items and names there were when the file was opened
+abbrev pub counts_of : Basis → ℕ × ℕ × ℕ
+counts_of b = (length b.types, length b.items, length b.names)
+
+-- the words of a history
+abbrev pub words_of : List Entry → List ℕ
+words_of [] = []
+words_of (e ∷ entries) = e.word ∷ words_of entries

@@ -1,5 +1,8 @@
-ghost use Rattle.std.specs.Prelude.{◌≡◌, ◌<◌, ◌^◌, ◌↔◌, length};
-ghost use Rattle.core_model.specs.Replay.{IfIllegal, IsFirstWrong, LeadsToTheEnd, started};
+ghost use Rattle.std.specs.Prelude.{◌≡◌, ◌<◌, ◌^◌, ◌↔◌, List, length};
+ghost use Rattle.turnstile.specs.declared.history.Basis.{Basis};
+ghost use Rattle.turnstile.specs.declared.history.Entry.{Entry};
+ghost use Rattle.core_model.specs.History.{IsLegal, after};
+ghost use Rattle.core_model.specs.Replay.{IfIllegal, IsFirstWrong, LeadsToTheEnd, counts_of, lists_of, started, words_of};
 
 use crate::call::Verdict;
 use crate::passed::{Passed, behind, is_end};
@@ -45,3 +48,9 @@ pub fn replay(
         }
     }
 }
+
+/// A law: the words of a legal history lead from the lists as opened to the lists behind it. So [`replay`]
+/// finds them legal.
+pub fn replayed()
+    ensures { (b : Basis) (h : List Entry) → IsLegal b h → LeadsToTheEnd (lists_of (after b h)) (started (counts_of b)) (words_of h) }
+{}
