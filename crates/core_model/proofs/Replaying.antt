@@ -1,10 +1,9 @@
 -- An answered add of a legal history gives a place that fits.
-use Rattle.std.proofs.Common.{◌≡◌, ◌≢◌, ◌≤◌, ◌<◌, ◌+◌, ◌-◌, ◌==◌, ℕ, zero, suc, Bool, true, false, cond, eqb, ltb, eq-eqb, ne_eqb, List, [], ◌∷◌, ◌++◌, length, length-append, take, Option, Some, None, option_and_then, Ok, ⊎_elim, refl, sym, ap, subst, ◌∙◌, arith}
+use Rattle.std.proofs.Common.{◌≡◌, ◌≤◌, ◌<◌, ◌+◌, ◌-◌, ◌==◌, ℕ, zero, suc, Bool, true, false, cond, eqb, ltb, eq-eqb, ne_eqb, List, [], ◌∷◌, ◌++◌, length, length-append, take, Option, Some, None, option_and_then, Ok, ⊎_elim, refl, sym, ap, subst, ◌∙◌, arith}
 use Rattle.std.specs.Prelude.{◌&&◌, not}
 use Rattle.std.specs.List.{slice_get}
 use Rattle.std.specs.Option.{option_map}
 use Rattle.std.specs.Str.{bytes_eq}
-use Rattle.std.proofs.lemmas.Bool.{cond-false}
 use Rattle.std.proofs.lemmas.Bool.Decides.{eqb_tells, nat_tests}
 use Rattle.std.proofs.lemmas.List.{take-append-le}
 use Rattle.std.proofs.lemmas.Slice.Eq.{bytes_eq-Decides}
@@ -160,9 +159,9 @@ same_offset_test t name at p = go (at == bytes_of t.names) refl where
       let next : at ≡ bytes_of t.names = ⊎_elim (λ h. h.1) (λ h. absurd (let z : false ≡ true = sym h.0 ∙ same in cc)) (eqb_tells at (bytes_of t.names)) in
       ⊎_elim (λ h. h.0)
       (λ h.
-        let less : p < n = grind (arith, h.1) in
-        let front : take p (t.names ++ name ∷ []) ≡ take p t.names = take-append-le p t.names (name ∷ []) (omega arith) in
-        absurd (omega (arith, bytes_of-take t.names p less, ap bytes_of front)))
+      let less : p < n = grind (arith, h.1) in
+      let front : take p (t.names ++ name ∷ []) ≡ take p t.names = take-append-le p t.names (name ∷ []) (omega arith) in
+      absurd (omega (arith, bytes_of-take t.names p less, ap bytes_of front)))
       (eqb_tells p n)
 
 pub add_name : (t : strings.Names) (c : ℕ) (cs : List ℕ) (at : ℕ) (final : List (List ℕ)) → strings.answer_to_add t (c ∷ cs) ≡ Ok at → StartsWith (string_lemmas.grown t at (c ∷ cs)).names final

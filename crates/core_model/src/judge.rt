@@ -14,8 +14,8 @@ use srv_edge::{RecordList, Text};
 /// Of what a word cannot show it says nothing: that a record that was added is a leaf whose fields name
 /// records, that a limit was met, and which number the first commit has.
 ///
-/// For each added record and name it searches its list from the front, so the time is as the number of adds
-/// times the length of the list; a word of another kind takes the same time everywhere.
+/// Each word of an add searches its list from the front, so the time grows with the number of adds times the
+/// length of their list. Every other word takes the same time, wherever it stands.
 pub fn replay(
     types: &RecordList,
     items: &RecordList,

@@ -1,7 +1,7 @@
-use Rattle.std.proofs.Common.{◌≡◌, ◌++◌, [], get_or, take, Some, None, length, sym, ap, ◌∙◌, arith}
+use Rattle.std.proofs.Common.{◌≡◌, [], get_or, take, length, sym, ap, ◌∙◌, arith}
 use Rattle.std.proofs.lemmas.Grind.{common_steps}
 use Rattle.std.proofs.lemmas.List.{append-nil}
-use Rattle.core_model.specs.Replay.{Lists, behind, behind_all, started}
+use Rattle.core_model.specs.Replay.{Lists, behind_all, started}
 use Rattle.core_model.proofs.Behind.{further, leads_nowhere, take-next, wrong_at}
 use Rattle.core_model.proofs.judge.replay.Goals as goal
 

@@ -1,5 +1,4 @@
-use Rattle.std.proofs.Common.{◌≡◌, ◌+◌, ◌++◌, ◌∷◌, [], length, length-append, ap, sym, ◌∙◌, arith}
-use Rattle.srv_edge.specs.Records.{joined}
+use Rattle.std.proofs.Common.{◌∷◌, [], length, length-append, ap, sym, ◌∙◌, arith}
 use Rattle.core_model.proofs.Counting.{length-joined_push, place_of-within}
 use Rattle.core_model.proofs.plain.add_leaf.Goals as goal
 

@@ -1,4 +1,4 @@
-use Rattle.std.proofs.Common.{sym, ◌∙◌, ap, arith}
+use Rattle.std.proofs.Common.{sym, ◌∙◌, ap}
 use Rattle.std.specs.Str.{bytes_eq}
 use Rattle.core_model.proofs.Places.{name-here}
 use Rattle.core_model.proofs.Searching.{place_of-here, place_of-further}

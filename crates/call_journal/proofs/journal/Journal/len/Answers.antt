@@ -1,4 +1,4 @@
-use Rattle.std.proofs.Common.{◌++◌, length-append, ap, ◌∙◌, arith}
+use Rattle.std.proofs.Common.{length-append, arith}
 use Rattle.std.proofs.lemmas.List.Elements.{recursion_from_All}
 use Rattle.call_journal.specs.Journal.{IsFull, words_in}
 use Rattle.call_journal.proofs.Pages.{length-words_in}

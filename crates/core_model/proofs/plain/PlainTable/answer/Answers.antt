@@ -1,4 +1,4 @@
-use Rattle.std.proofs.Common.{length, arith}
+use Rattle.std.proofs.Common.{arith}
 use Rattle.core_model.proofs.Counting.{length-le}
 use Rattle.core_model.proofs.plain.PlainTable.answer.Goals as goal
 
