@@ -1,3 +1,7 @@
+mod Behind
+mod Counting
+mod Places
+mod Searching
 pub mod Growing
 mod Missing
 pub mod Records
@@ -14,3 +18,5 @@ pub mod Replying
 pub mod Acknowledging
 pub mod Extending
 mod Smooth
+mod Replaying
+mod Leading

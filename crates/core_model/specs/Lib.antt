@@ -4,3 +4,5 @@ pub mod History
 pub mod Cuts
 pub mod World
 pub mod Law
+pub mod Plain
+pub mod Replay

@@ -3,7 +3,15 @@
 #![tactic(auto)]
 
 mod call;
+mod judge;
 mod laws;
+mod passed;
+mod plain;
+mod search;
+#[cfg(test)]
+mod tests;
 
 pub use crate::call::{Call, Outcome, Verdict};
+pub use crate::judge::{replay, replayed};
 pub use crate::laws::{acknowledged, commits, events, reopening, replies, words, world};
+pub use crate::plain::PlainTable;

@@ -1,0 +1,228 @@
+ghost use Rattle.std.specs.Prelude.{◌≡◌, ◌<◌, ◌&&◌, length, IfSome, Some, None, is_none, if◌then◌else◌};
+ghost use Rattle.core_model.specs.Replay.{behind, behind_add, behind_deed, count_with, holds_records, is_end, is_first, is_limit_of, is_next, is_open, is_open_number, names_nothing, place_fits, place_of_index, place_of_offset};
+
+use crate::plain::FIRST_INDEX;
+use crate::search::{place_of, place_of_name};
+use call_journal::{Deed, Limit, TableKind, caller_of, deed_of};
+use srv_edge::{RecordList, Text};
+
+/// A commit that has begun and has not ended.
+#[derive(Clone, Copy)]
+pub(crate) struct CommitOpen {
+    pub(crate) caller: u8,
+    pub(crate) number: u32,
+}
+
+/// How far the words before a place have come: how many types, items and names are there, the last number
+/// that began, and the commit under way.
+#[derive(Clone, Copy)]
+pub(crate) struct Passed {
+    pub(crate) types: u32,
+    pub(crate) items: u32,
+    pub(crate) names: usize,
+    pub(crate) last: Option<u32>,
+    pub(crate) under_way: Option<CommitOpen>,
+}
+
+/// How far the words have come behind one more, where it fits.
+pub(crate) fn behind(
+    types: &RecordList,
+    items: &RecordList,
+    names: &[Text],
+    passed: Passed,
+    word: u64,
+) -> Option<Passed>
+    ensures { result ≡ behind (record { types = types.now; items = items.now; names = names.now }) passed word }
+{
+    let caller = caller_of(word);
+    match deed_of(word)? {
+        Deed::Added { table, at } => behind_add(types, items, names, passed, table, at),
+        Deed::Asked { .. } | Deed::Counted => Some(passed),
+        Deed::NotGiven {
+            index,
+            space,
+            table,
+        } => (names_nothing(passed, space, index) && holds_records(table)).then_some(passed),
+        Deed::Full { limit, table, .. } => is_limit_of(table, limit).then_some(passed),
+        Deed::Began { number } => begun(passed, caller, number),
+        Deed::Ended { number, .. } => ended(passed, caller, number),
+        Deed::Underway { number } => is_open_number(passed, number).then_some(passed),
+    }
+}
+
+/// Whether the lists that are there are the final ones.
+pub(crate) fn is_end(types: &RecordList, items: &RecordList, names: &[Text], passed: Passed) -> bool
+    ensures { result ≡ is_end (record { types = types.now; items = items.now; names = names.now }) passed }
+{
+    passed.types == types.len() && passed.items == items.len() && passed.names == names.len()
+}
+
+// An answered add.
+fn behind_add(
+    types: &RecordList,
+    items: &RecordList,
+    names: &[Text],
+    passed: Passed,
+    table: TableKind,
+    at: u32,
+) -> Option<Passed>
+    ensures { result ≡ behind_add (record { types = types.now; items = items.now; names = names.now }) passed table at }
+{
+    match table {
+        TableKind::Types => Some(Passed {
+            types: count_with(types, passed.types, at)?,
+            ..passed
+        }),
+        TableKind::Items => Some(Passed {
+            items: count_with(items, passed.items, at)?,
+            ..passed
+        }),
+        TableKind::Names if at == 0 => Some(passed),
+        TableKind::Names => Some(Passed {
+            names: names_with(names, passed.names, at)?,
+            ..passed
+        }),
+    }
+}
+
+// How many records are there behind an add that gave this index, where it fits.
+fn count_with(list: &RecordList, count: u32, index: u32) -> Option<u32>
+    ensures { result ≡ (let place = place_of_index index in if place_fits list.now count place then Some (count_with count place) else None) }
+{
+    if index < FIRST_INDEX {
+        return None;
+    }
+    let place = index - FIRST_INDEX;
+    if place > count || !is_first(list, place) {
+        return None;
+    }
+    Some(if place == count { count + 1 } else { count })
+}
+
+// Whether a record stands at a place, and equals none before it.
+fn is_first(list: &RecordList, place: u32) -> bool
+    ensures { result ≡ is_first list.now place }
+{
+    match list.get(place) {
+        Some(record) => place_of(list, record) == Some(place),
+        None => false,
+    }
+}
+
+// How many names are there behind an add that gave this offset, where it fits.
+fn names_with(names: &[Text], count: usize, offset: u32) -> Option<usize>
+    ensures { result ≡ (let place = place_of_offset 1 names.now offset in if place_fits names.now count place then Some (count_with count place) else None) }
+{
+    let place = place_of_offset(names, offset)?;
+    if place > count || !is_first_name(names, place) {
+        return None;
+    }
+    Some(if place == count { count + 1 } else { count })
+}
+
+// The place of the name that begins at an offset, but for an empty one.
+fn place_of_offset(names: &[Text], offset: u32) -> Option<usize>
+    ensures place { result ≡ place_of_offset 1 names.now offset }
+    ensures within { IfSome result (λ place. place < length names.now) }
+{
+    let wanted = u64::from(offset);
+    let mut start = 1;
+    for (place, name) in names.iter().enumerate() {
+        if start > wanted {
+            return None;
+        }
+        if start == wanted {
+            return if name.bytes().is_empty() {
+                None
+            } else {
+                Some(place)
+            };
+        }
+        start += name.bytes().len() as u64 + 1;
+    }
+    None
+}
+
+// Whether a name stands at a place, and equals none before it.
+fn is_first_name(names: &[Text], place: usize) -> bool
+    ensures { result ≡ is_first names.now place }
+{
+    match names.get(place) {
+        Some(name) => place_of_name(names, name.bytes()) == Some(place),
+        None => false,
+    }
+}
+
+// Whether an index names no record yet.
+fn names_nothing(passed: Passed, space: TableKind, index: u32) -> bool
+    ensures { result ≡ names_nothing passed space index }
+{
+    match space {
+        TableKind::Types => index >= FIRST_INDEX && index - FIRST_INDEX >= passed.types,
+        TableKind::Items => index >= FIRST_INDEX && index - FIRST_INDEX >= passed.items,
+        TableKind::Names => false,
+    }
+}
+
+fn holds_records(table: TableKind) -> bool
+    ensures { result ≡ holds_records table }
+{
+    table != TableKind::Names
+}
+
+// Whether a table has such a limit.
+fn is_limit_of(table: TableKind, limit: Limit) -> bool
+    ensures { result ≡ is_limit_of table limit }
+{
+    match limit {
+        Limit::Records | Limit::Bytes => holds_records(table),
+        Limit::Names => !holds_records(table),
+    }
+}
+
+// A commit began.
+fn begun(passed: Passed, caller: u8, number: u32) -> Option<Passed>
+    ensures { result ≡ (if is_none passed.under_way && is_next passed.last number then Some (record passed { last = Some number; under_way = Some (record { caller = caller; number = number }) }) else None) }
+{
+    if passed.under_way.is_some() || !is_next(passed.last, number) {
+        return None;
+    }
+    Some(Passed {
+        last: Some(number),
+        under_way: Some(CommitOpen { caller, number }),
+        ..passed
+    })
+}
+
+// Whether a number may begin.
+fn is_next(last: Option<u32>, number: u32) -> bool
+    ensures { result ≡ is_next last number }
+{
+    match last {
+        Some(last) => u64::from(number) == u64::from(last) + 1,
+        None => true,
+    }
+}
+
+// A commit ended.
+fn ended(passed: Passed, caller: u8, number: u32) -> Option<Passed>
+    ensures { result ≡ (if is_open passed.under_way caller number then Some (record passed { under_way = None }) else None) }
+{
+    match passed.under_way {
+        Some(commit) if commit.caller == caller && commit.number == number => Some(Passed {
+            under_way: None,
+            ..passed
+        }),
+        _ => None,
+    }
+}
+
+// Whether a commit of this number is under way.
+fn is_open_number(passed: Passed, number: u32) -> bool
+    ensures { result ≡ is_open_number passed.under_way number }
+{
+    match passed.under_way {
+        Some(commit) => commit.number == number,
+        None => false,
+    }
+}
