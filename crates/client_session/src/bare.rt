@@ -10,6 +10,7 @@ use record_table::{AddFault, RecordTable};
 use request_frames::{Desk, Request, write_frame};
 use srv_edge::{Limits, Piece, Refusal, half};
 use std::alloc::{AllocError, Global};
+use std::hash::RandomState;
 use std::marker::Model;
 
 /// The version of the protocol that is spoken.
@@ -32,8 +33,8 @@ impl Model for Bare {
 }
 
 impl Bare {
-    /// A desk over empty tables.
-    pub fn new(alloc: Global, limits: Limits) -> Result<Bare, AllocError>
+    /// A desk over empty tables. The keys are those by which names are found in memory.
+    pub fn new(alloc: Global, keys: RandomState, limits: Limits) -> Result<Bare, AllocError>
         ensures types { IfOk result (λ b. b.types ≡ record { max_records = limits.records; max_bytes = limits.bytes; records = [] }) }
         ensures items { IfOk result (λ b. b.items ≡ record { max_records = limits.records; max_bytes = limits.bytes; records = [] }) }
         ensures names { IfOk result (λ b. b.names ≡ record { max_bytes = limits.name_bytes; version = 1; names = [] }) }
@@ -41,7 +42,7 @@ impl Bare {
         Ok(Bare {
             types: RecordTable::new(alloc, limits)?,
             items: RecordTable::new(alloc, limits)?,
-            names: NamesTable::new(alloc, limits, 1)?,
+            names: NamesTable::new(alloc, keys, limits, 1)?,
         })
     }
 }

@@ -7,6 +7,7 @@ use msf_image::DamageKind;
 use srv_edge::{FileDevice, MemDevice, MemSink, MemSource};
 use std::alloc::Global;
 use std::fs::File;
+use std::hash::RandomState;
 use std::test::Fail;
 
 fn words_of(alloc: Global, command: &str, path: &str) -> Result<Vec<Word>, Fail> {
@@ -35,6 +36,7 @@ fn small_file(alloc: Global) -> Result<Vec<u8>, Fail> {
 // What `check` prints of a file, and its status.
 fn checked(
     alloc: Global,
+    keys: RandomState,
     file: Vec<u8>,
     device_fails: &[u32],
     sink_fails: &[u32],
@@ -43,7 +45,7 @@ fn checked(
     let mut sink = MemSink::new(alloc, Vec::from_slice(alloc, sink_fails)?);
     let device = MemDevice::new(alloc, file, Vec::from_slice(alloc, device_fails)?);
     let words = words_of(alloc, "check", "P")?;
-    let (status, _) = run(alloc, &words, &mut source, &mut sink, device);
+    let (status, _) = run(alloc, keys, &words, &mut source, &mut sink, device);
     Ok((String::from_utf8_lossy(alloc, sink.taken())?, status))
 }
 
@@ -52,6 +54,7 @@ const WHOLE: &str = "msf block=512 blocks=6 streams=2 free=0\n";
 // One byte of the small file changed.
 #[test]
 fn each_damage(rt: HostRuntime) -> Result<(), Fail> {
+    let keys = RandomState::new(&rt)?;
     let rows = [
         (0, 0x6d, DamageKind::Magic, 0, "damage magic 0\n"),
         (32, 1, DamageKind::BlockSize, 32, "damage block-size 32\n"),
@@ -113,7 +116,7 @@ fn each_damage(rt: HostRuntime) -> Result<(), Fail> {
         if let Some(changed) = file.get_mut(at) {
             *changed = byte;
         }
-        let (text, status) = checked(rt.alloc(), file, &[], &[])?;
+        let (text, status) = checked(rt.alloc(), keys, file, &[], &[])?;
         assert_eq!(rt; text.as_str(), line);
         assert_eq!(rt; status, Status::Damage { kind, place });
     }
@@ -123,6 +126,7 @@ fn each_damage(rt: HostRuntime) -> Result<(), Fail> {
 // The file cut to so many bytes, and one with bytes behind its blocks.
 #[test]
 fn lengths(rt: HostRuntime) -> Result<(), Fail> {
+    let keys = RandomState::new(&rt)?;
     let rows = [
         (0, "damage magic 0\n"),
         (55, "damage magic 0\n"),
@@ -133,12 +137,12 @@ fn lengths(rt: HostRuntime) -> Result<(), Fail> {
     for (len, line) in rows {
         let mut file = small_file(rt.alloc())?;
         file.truncate(len);
-        let (text, _) = checked(rt.alloc(), file, &[], &[])?;
+        let (text, _) = checked(rt.alloc(), keys, file, &[], &[])?;
         assert_eq!(rt; text.as_str(), line);
     }
     let mut longer = small_file(rt.alloc())?;
     longer.extend_from_slice(&[7; 700])?;
-    let (text, status) = checked(rt.alloc(), longer, &[], &[])?;
+    let (text, status) = checked(rt.alloc(), keys, longer, &[], &[])?;
     assert_eq!(rt; (text.as_str(), status), (WHOLE, Status::Ok));
     Ok(())
 }
@@ -147,21 +151,22 @@ fn lengths(rt: HostRuntime) -> Result<(), Fail> {
 // free block map. Then the sink fails, over a whole file and over a damaged one.
 #[test]
 fn each_call_fails(rt: HostRuntime) -> Result<(), Fail> {
+    let keys = RandomState::new(&rt)?;
     for call in 0..5u32 {
-        let (text, status) = checked(rt.alloc(), small_file(rt.alloc())?, &[call], &[])?;
+        let (text, status) = checked(rt.alloc(), keys, small_file(rt.alloc())?, &[call], &[])?;
         assert_eq!(rt;
             (text.as_str(), status),
             ("", Status::DiskFault),
             "at {call}"
         );
     }
-    let (text, status) = checked(rt.alloc(), small_file(rt.alloc())?, &[5], &[])?;
+    let (text, status) = checked(rt.alloc(), keys, small_file(rt.alloc())?, &[5], &[])?;
     assert_eq!(rt; (text.as_str(), status), (WHOLE, Status::Ok));
-    let (text, status) = checked(rt.alloc(), small_file(rt.alloc())?, &[], &[0])?;
+    let (text, status) = checked(rt.alloc(), keys, small_file(rt.alloc())?, &[], &[0])?;
     assert_eq!(rt; (text.as_str(), status), ("", Status::WriteFault));
     let mut damaged = small_file(rt.alloc())?;
     damaged.truncate(100);
-    let (text, status) = checked(rt.alloc(), damaged, &[], &[0])?;
+    let (text, status) = checked(rt.alloc(), keys, damaged, &[], &[0])?;
     assert_eq!(rt; (text.as_str(), status), ("", Status::WriteFault));
     Ok(())
 }
@@ -169,6 +174,7 @@ fn each_call_fails(rt: HostRuntime) -> Result<(), Fail> {
 // A file that is not there is a fault of the disk. Words that are no form do not ask for it.
 #[test]
 fn no_file_and_no_form(rt: HostRuntime) -> Result<(), Fail> {
+    let keys = RandomState::new(&rt)?;
     let rows = [
         ("check", "P", Status::DiskFault),
         ("check", "-", Status::DiskFault),
@@ -183,7 +189,7 @@ fn no_file_and_no_form(rt: HostRuntime) -> Result<(), Fail> {
         let mut sink = MemSink::new(rt.alloc(), Vec::new(rt.alloc()));
         let words = words_of(rt.alloc(), command, path)?;
         let device: FileDevice<File> = FileDevice::absent();
-        let (status, _) = run(rt.alloc(), &words, &mut source, &mut sink, device);
+        let (status, _) = run(rt.alloc(), keys, &words, &mut source, &mut sink, device);
         assert_eq!(rt; status, want, "at {command} {path}");
         assert!(rt; sink.taken().is_empty());
     }

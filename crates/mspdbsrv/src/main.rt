@@ -18,6 +18,7 @@ use crate::word::Word;
 use srv_edge::{FileDevice, StdIn, StdOut};
 use std::alloc::Global;
 use std::fs::File;
+use std::hash::RandomState;
 use std::process::ExitCode;
 use std::rt::Env;
 use std::{env, io};
@@ -57,14 +58,20 @@ fn is_folder(file: &File) -> bool {
     }
 }
 
-fn main(rt: HostRuntime) -> ExitCode {
+// Does what the words ask for. Where the system gives no random bytes, it ends as out of memory, before it reads.
+fn run_words(rt: &HostRuntime, words: &[Word]) -> Status {
+    let Ok(keys) = RandomState::new(rt) else {
+        return Status::OutOfMemory;
+    };
     let mut source = StdIn::new(rt.stdin());
     let mut sink = StdOut::new(rt.stdout());
+    let device = device_of(rt, words);
+    run(rt.alloc(), keys, words, &mut source, &mut sink, device).0
+}
+
+fn main(rt: HostRuntime) -> ExitCode {
     let status = match words_of(&rt) {
-        Ok(words) => {
-            let device = device_of(&rt, &words);
-            run(rt.alloc(), &words, &mut source, &mut sink, device).0
-        }
+        Ok(words) => run_words(&rt, &words),
         Err(status) => status,
     };
     if status != Status::Ok {

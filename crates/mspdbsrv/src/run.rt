@@ -16,14 +16,17 @@ use client_session::Bare;
 use request_frames::serve_link;
 use srv_edge::{Both, Device, Limits, Room, Sink, Source};
 use std::alloc::{AllocError, Global};
+use std::hash::RandomState;
 
 /// The most bytes that a session reads.
 const SESSION_BYTES: u64 = 4_294_967_296;
 
 /// Does what the words ask for, and hands the device back. `session` makes its tables and its buffers before it reads, and
-/// does not touch the device; `check` reads the device alone, and writes nothing to it.
+/// does not touch the device; `check` reads the device alone, and writes nothing to it. The keys are those by which a
+/// session finds names in memory.
 pub fn run<S: Source, K: Sink, D: Device>(
     alloc: Global,
+    keys: RandomState,
     words: &[Word],
     source: &mut S,
     sink: &mut K,
@@ -58,7 +61,7 @@ pub fn run<S: Source, K: Sink, D: Device>(
         → length (S.left source.old) < 2 ^ 32 → (frames : List Frame) (tail : Tail) → AreFrames (S.left source.old) frames tail → (result.0 ≡ Status.OutOfMemory) ⊎ (result.0 ≡ status_of (end_at tail)) }
 {
     match plan_of(alloc, words) {
-        Ok(Plan::Session) => (session(alloc, source, sink), device),
+        Ok(Plan::Session) => (session(alloc, keys, source, sink), device),
         Ok(Plan::Check { .. }) => {
             let status = check(alloc, sink, &mut device);
             (status, device)
@@ -69,7 +72,12 @@ pub fn run<S: Source, K: Sink, D: Device>(
 }
 
 // Serves the source and the sink over empty tables.
-fn session<S: Source, K: Sink>(alloc: Global, source: &mut S, sink: &mut K) -> Status
+fn session<S: Source, K: Sink>(
+    alloc: Global,
+    keys: RandomState,
+    source: &mut S,
+    sink: &mut K,
+) -> Status
     ensures session { IsEarly result ⊎ ((read : List ℕ) × (sent : List ℕ) × IsRun read sent result
         × Came S.tells read (S.given source.old) (S.left source.old) (S.given source.new) (S.left source.new)
         × Went K.tells sent (K.taken sink.old) (K.taken sink.new)) }
@@ -84,17 +92,17 @@ fn session<S: Source, K: Sink>(alloc: Global, source: &mut S, sink: &mut K) -> S
     ensures complete { IsTrue S.tells → ¬ Rose (S.faults source.old) (S.faults source.new) → ¬ Rose (K.faults sink.old) (K.faults sink.new)
         → length (S.left source.old) < 2 ^ 32 → (frames : List Frame) (tail : Tail) → AreFrames (S.left source.old) frames tail → (result ≡ Status.OutOfMemory) ⊎ (result ≡ status_of (end_at tail)) }
 {
-    match make_desk(alloc) {
+    match make_desk(alloc, keys) {
         Ok((mut desk, mut room)) => serve(source, sink, &mut desk, &mut room),
         Err(_) => Status::OutOfMemory,
     }
 }
 
 // A desk over empty tables, and the buffers of its session.
-fn make_desk(alloc: Global) -> Result<(Bare, Room), AllocError>
+fn make_desk(alloc: Global, keys: RandomState) -> Result<(Bare, Room), AllocError>
     ensures { IfOk result (λ made. made.0 ≡ empty_tables) }
 {
-    let desk = Bare::new(alloc, Limits::STANDARD)?;
+    let desk = Bare::new(alloc, keys, Limits::STANDARD)?;
     let room = Room::new(alloc)?;
     Ok((desk, room))
 }

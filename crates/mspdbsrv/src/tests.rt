@@ -10,6 +10,7 @@ use request_frames::serve_link;
 use srv_edge::{Failed, FileDevice, Limits, MemLink, MemSink, MemSource, Room, SessionEnd, Sink};
 use std::alloc::Global;
 use std::fs::File;
+use std::hash::RandomState;
 use std::test::Fail;
 
 // A modifier of type 74 with attribute 1, as an AddType.
@@ -47,6 +48,7 @@ fn source_of(alloc: Global, input: &str, piece: usize, fail: &[u32]) -> Result<M
 // most so many more in each call.
 fn talk(
     alloc: Global,
+    keys: RandomState,
     input: &str,
     more: u8,
     source_fails: &[u32],
@@ -55,7 +57,7 @@ fn talk(
     let mut source = source_of(alloc, input, usize::from(more) + 1, source_fails)?;
     let mut sink = MemSink::new(alloc, Vec::from_slice(alloc, sink_fails)?);
     let words = session_words(alloc)?;
-    let status = run(alloc, &words, &mut source, &mut sink, no_file()).0;
+    let status = run(alloc, keys, &words, &mut source, &mut sink, no_file()).0;
     Ok((hex::encode(alloc, sink.taken())?, status))
 }
 
@@ -69,10 +71,16 @@ fn packed(alloc: Global, text: &str) -> Result<String, Fail> {
 }
 
 // Whether an input has these replies and ends so, in one piece and in pieces of a byte and of seven.
-fn talks(alloc: Global, input: &str, replies: &str, status: Status) -> Result<bool, Fail> {
+fn talks(
+    alloc: Global,
+    keys: RandomState,
+    input: &str,
+    replies: &str,
+    status: Status,
+) -> Result<bool, Fail> {
     let want = packed(alloc, replies)?;
     for more in [255, 0, 6] {
-        let (text, got) = talk(alloc, input, more, &[], &[])?;
+        let (text, got) = talk(alloc, keys, input, more, &[], &[])?;
         if text.as_str() != want.as_str() || got != status {
             return Ok(false);
         }
@@ -82,6 +90,7 @@ fn talks(alloc: Global, input: &str, replies: &str, status: Status) -> Result<bo
 
 #[test]
 fn records_by_their_bytes(rt: HostRuntime) -> Result<(), Fail> {
+    let keys = RandomState::new(&rt)?;
     let rows = [
         // the first record, twice, and the counts
         (
@@ -160,13 +169,17 @@ fn records_by_their_bytes(rt: HostRuntime) -> Result<(), Fail> {
         ),
     ];
     for (input, replies, status) in rows {
-        assert!(rt; talks(rt.alloc(), input, replies, status)?, "at {input:?}");
+        assert!(rt;
+            talks(rt.alloc(), keys, input, replies, status)?,
+            "at {input:?}"
+        );
     }
     Ok(())
 }
 
 #[test]
 fn leaves_by_their_bytes(rt: HostRuntime) -> Result<(), Fail> {
+    let keys = RandomState::new(&rt)?;
     let rows = [
         // lists: one that is empty, and one whose count cannot fit
         (
@@ -209,13 +222,17 @@ fn leaves_by_their_bytes(rt: HostRuntime) -> Result<(), Fail> {
         ),
     ];
     for (input, replies, status) in rows {
-        assert!(rt; talks(rt.alloc(), input, replies, status)?, "at {input:?}");
+        assert!(rt;
+            talks(rt.alloc(), keys, input, replies, status)?,
+            "at {input:?}"
+        );
     }
     Ok(())
 }
 
 #[test]
 fn items_and_names_by_their_bytes(rt: HostRuntime) -> Result<(), Fail> {
+    let keys = RandomState::new(&rt)?;
     let rows = [
         // an item, one that names a missing type, and an item sent as a type
         (
@@ -261,7 +278,10 @@ fn items_and_names_by_their_bytes(rt: HostRuntime) -> Result<(), Fail> {
         ("0d000000020a000110", "", Status::CutShort),
     ];
     for (input, replies, status) in rows {
-        assert!(rt; talks(rt.alloc(), input, replies, status)?, "at {input:?}");
+        assert!(rt;
+            talks(rt.alloc(), keys, input, replies, status)?,
+            "at {input:?}"
+        );
     }
     Ok(())
 }
@@ -269,9 +289,10 @@ fn items_and_names_by_their_bytes(rt: HostRuntime) -> Result<(), Fail> {
 // The source fails at one of its five calls, or the sink at one of its two.
 #[test]
 fn faults_at_each_call(rt: HostRuntime) -> Result<(), Fail> {
+    let keys = RandomState::new(&rt)?;
     let alloc = rt.alloc();
     for (call, replies) in [(0, ""), (1, ""), (2, FIRST), (3, FIRST), (4, TWICE)] {
-        let (text, status) = talk(alloc, TWO, 255, &[call], &[])?;
+        let (text, status) = talk(alloc, keys, TWO, 255, &[call], &[])?;
         assert_eq!(rt;
             (text.as_str(), status),
             (replies, Status::ReadFault),
@@ -279,14 +300,14 @@ fn faults_at_each_call(rt: HostRuntime) -> Result<(), Fail> {
         );
     }
     for (call, replies) in [(0, ""), (1, FIRST)] {
-        let (text, status) = talk(alloc, TWO, 255, &[], &[call])?;
+        let (text, status) = talk(alloc, keys, TWO, 255, &[], &[call])?;
         assert_eq!(rt;
             (text.as_str(), status),
             (replies, Status::WriteFault),
             "at {call}"
         );
     }
-    let (text, status) = talk(alloc, TWO, 255, &[5], &[2])?;
+    let (text, status) = talk(alloc, keys, TWO, 255, &[5], &[2])?;
     assert_eq!(rt; (text.as_str(), status), (TWICE, Status::Ok));
     Ok(())
 }
@@ -294,17 +315,18 @@ fn faults_at_each_call(rt: HostRuntime) -> Result<(), Fail> {
 // Other words than the one form read nothing.
 #[test]
 fn other_words_are_no_form(rt: HostRuntime) -> Result<(), Fail> {
+    let keys = RandomState::new(&rt)?;
     let mut source = source_of(rt.alloc(), ADD, 1000, &[])?;
     let mut sink = MemSink::new(rt.alloc(), Vec::new(rt.alloc()));
     let none = Vec::new(rt.alloc());
-    let status = run(rt.alloc(), &none, &mut source, &mut sink, no_file()).0;
+    let status = run(rt.alloc(), keys, &none, &mut source, &mut sink, no_file()).0;
     assert_eq!(rt; status, Status::Usage);
     let mut two = session_words(rt.alloc())?;
     two.push(Word::new(String::from_str(rt.alloc(), "P")?))?;
-    let status = run(rt.alloc(), &two, &mut source, &mut sink, no_file()).0;
+    let status = run(rt.alloc(), keys, &two, &mut source, &mut sink, no_file()).0;
     assert_eq!(rt; (status, status.code()), (Status::Usage, 2));
     let words = session_words(rt.alloc())?;
-    let status = run(rt.alloc(), &words, &mut source, &mut sink, no_file()).0;
+    let status = run(rt.alloc(), keys, &words, &mut source, &mut sink, no_file()).0;
     assert_eq!(rt; (status, status.code()), (Status::Ok, 0));
     assert_eq!(rt; hex::encode(rt.alloc(), sink.taken())?.as_str(), FIRST);
     Ok(())
@@ -313,11 +335,12 @@ fn other_words_are_no_form(rt: HostRuntime) -> Result<(), Fail> {
 // A limit of the length of one frame ends behind its reply.
 #[test]
 fn limit_of_one_frame(rt: HostRuntime) -> Result<(), Fail> {
+    let keys = RandomState::new(&rt)?;
     let mut link = MemLink {
         source: source_of(rt.alloc(), TWO, 255, &[])?,
         sink: MemSink::new(rt.alloc(), Vec::new(rt.alloc())),
     };
-    let mut desk = Bare::new(rt.alloc(), Limits::STANDARD)?;
+    let mut desk = Bare::new(rt.alloc(), RandomState::new(&rt)?, Limits::STANDARD)?;
     let mut room = Room::new(rt.alloc())?;
     let end = serve_link(&(), &mut link, &mut desk, 17, &mut room);
     assert_eq!(rt; end, SessionEnd::TooLong);
@@ -333,7 +356,12 @@ const NAMES: &str =
     "020000000461 020000000462 020000000461 0100000004 050000000703000000 0100000009";
 
 // The replies over empty tables that hold so many records, bytes of records and bytes of names.
-fn talk_within(alloc: Global, limits: (u8, u8, u8), input: &str) -> Result<String, Fail> {
+fn talk_within(
+    alloc: Global,
+    keys: RandomState,
+    limits: (u8, u8, u8),
+    input: &str,
+) -> Result<String, Fail> {
     let limits = Limits {
         records: u32::from(limits.0),
         bytes: u32::from(limits.1),
@@ -345,7 +373,7 @@ fn talk_within(alloc: Global, limits: (u8, u8, u8), input: &str) -> Result<Strin
         source: source_of(alloc, input, 255, &[])?,
         sink: MemSink::new(alloc, Vec::new(alloc)),
     };
-    let mut desk = Bare::new(alloc, limits)?;
+    let mut desk = Bare::new(alloc, keys, limits)?;
     let mut room = Room::new(alloc)?;
     serve_link(&(), &mut link, &mut desk, u64::from(u32::MAX), &mut room);
     Ok(hex::encode(alloc, link.sink.taken())?)
@@ -355,6 +383,7 @@ fn talk_within(alloc: Global, limits: (u8, u8, u8), input: &str) -> Result<Strin
 // is there is still found.
 #[test]
 fn limits_at_their_numbers(rt: HostRuntime) -> Result<(), Fail> {
+    let keys = RandomState::new(&rt)?;
     let rows = [
         // two records, and the first again
         (
@@ -398,7 +427,7 @@ fn limits_at_their_numbers(rt: HostRuntime) -> Result<(), Fail> {
         ),
     ];
     for (limits, input, replies) in rows {
-        let got = talk_within(rt.alloc(), limits, input)?;
+        let got = talk_within(rt.alloc(), keys, limits, input)?;
         assert_eq!(rt; got.as_str(), packed(rt.alloc(), replies)?.as_str());
     }
     Ok(())
@@ -432,13 +461,14 @@ impl Sink for Drip {
 
 #[test]
 fn one_byte_a_give(rt: HostRuntime) -> Result<(), Fail> {
+    let keys = RandomState::new(&rt)?;
     let mut source = source_of(rt.alloc(), TWO, 1, &[])?;
     let mut sink = Drip {
         taken: Vec::new(rt.alloc()),
         faults: 0,
     };
     let words = session_words(rt.alloc())?;
-    let status = run(rt.alloc(), &words, &mut source, &mut sink, no_file()).0;
+    let status = run(rt.alloc(), keys, &words, &mut source, &mut sink, no_file()).0;
     assert_eq!(rt; status, Status::Ok);
     let text = hex::encode(rt.alloc(), sink.taken.as_slice())?;
     assert_eq!(rt; text.as_str(), TWICE);
@@ -448,6 +478,7 @@ fn one_byte_a_give(rt: HostRuntime) -> Result<(), Fail> {
 // The longest record is taken: a list of 16,382 arguments.
 #[test]
 fn longest_record(rt: HostRuntime) -> Result<(), Fail> {
+    let keys = RandomState::new(&rt)?;
     let mut bytes = hex::decode(rt.alloc(), "0100010002feff0112fe3f0000")?;
     for _ in 0..16_382u32 {
         bytes.extend_from_slice(&[0x74, 0, 0, 0])?;
@@ -455,7 +486,7 @@ fn longest_record(rt: HostRuntime) -> Result<(), Fail> {
     let mut source = MemSource::new(bytes, 65_536, Vec::new(rt.alloc()));
     let mut sink = MemSink::new(rt.alloc(), Vec::new(rt.alloc()));
     let words = session_words(rt.alloc())?;
-    let status = run(rt.alloc(), &words, &mut source, &mut sink, no_file()).0;
+    let status = run(rt.alloc(), keys, &words, &mut source, &mut sink, no_file()).0;
     assert_eq!(rt; status, Status::Ok);
     assert_eq!(rt; hex::encode(rt.alloc(), sink.taken())?.as_str(), FIRST);
     Ok(())

@@ -7,10 +7,11 @@ ghost use Rattle.names_table.specs.Names.{bytes_of, name_from};
 
 use indexmap::IndexMap;
 use std::alloc::AllocError;
+use std::hash::RandomState;
 
 /// Adds a new name as the last, at its offset.
 pub(crate) fn append(
-    offsets: &mut IndexMap<Vec<u8>, u32>,
+    offsets: &mut IndexMap<Vec<u8>, u32, RandomState>,
     name: &[u8],
     offset: u32,
 ) -> Result<(), AllocError>
@@ -27,7 +28,7 @@ pub(crate) fn append(
 }
 
 /// The name that begins at an offset.
-pub(crate) fn find_name(offsets: &IndexMap<Vec<u8>, u32>, offset: u32) -> Option<&[u8]>
+pub(crate) fn find_name(offsets: &IndexMap<Vec<u8>, u32, RandomState>, offset: u32) -> Option<&[u8]>
     requires places { InPlace 1 offsets.now.entries }
     requires count { length offsets.now.entries < 2 ^ 32 }
     ensures { option_copied result ≡ name_from 1 (names_of offsets.now.entries) offset }

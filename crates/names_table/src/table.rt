@@ -7,6 +7,7 @@ use crate::fault::NameFault;
 use indexmap::IndexMap;
 use srv_edge::Limits;
 use std::alloc::{AllocError, Global};
+use std::hash::RandomState;
 use std::marker::Model;
 
 /// The names of one file, each found by its text.
@@ -14,7 +15,7 @@ use std::marker::Model;
 pub struct NamesTable {
     max_bytes: u32,
     version: u32,
-    offsets: IndexMap<Vec<u8>, u32>,
+    offsets: IndexMap<Vec<u8>, u32, RandomState>,
     bytes: u32,
 }
 
@@ -31,15 +32,21 @@ impl Model for NamesTable {
 }
 
 impl NamesTable {
-    /// An empty table. The version is that of the hashes with which the stream is written, 1 or 2.
-    pub fn new(alloc: Global, limits: Limits, version: u32) -> Result<NamesTable, AllocError>
+    /// An empty table. The version is that of the hashes with which the stream is written, 1 or 2. The keys are those by
+    /// which names are found in memory: where they are random, no one can choose names that collide.
+    pub fn new(
+        alloc: Global,
+        keys: RandomState,
+        limits: Limits,
+        version: u32,
+    ) -> Result<NamesTable, AllocError>
         requires { (version ≡ 1) ⊎ (version ≡ 2) }
         ensures { IfOk result (λ t. t ≡ record { max_bytes = limits.name_bytes; version = version; names = [] }) }
     {
         Ok(NamesTable {
             max_bytes: limits.name_bytes,
             version,
-            offsets: IndexMap::new(alloc),
+            offsets: IndexMap::with_hasher(alloc, keys),
             bytes: 1,
         })
     }
