@@ -93,7 +93,9 @@ fn talk(rt: &impl Abort, alloc: Global, limits: Limits, rows: &[(Ask, Want)]) ->
     Ok(())
 }
 
-static RECORDS: [(Ask, Want); 15] = [
+// Where two fields name nothing, the first from the left is told.
+static RECORDS: [(Ask, Want); 16] = [
+    (Ask::AddType(LIST), Want::NotGiven(0, 0x1002)),
     (Ask::GetType(0x1000), Want::NotGiven(0, 0x1000)),
     (Ask::GetType(0x74), Want::NotGiven(0, 0x74)),
     (Ask::AddType(MODIFIER), Want::NotGiven(0, 0x1000)),
