@@ -5,3 +5,5 @@ mod Listed
 mod Directories
 mod Searching
 mod Opening
+mod Giving
+mod Laying

@@ -1,0 +1,65 @@
+-- The blocks that are given: in order, none of them reserved, and every one of them.
+use Rattle.std.proofs.Common.{◌≡◌, ◌≤◌, ◌<◌, ◌+◌, ◌-◌, ◌*◌, ◌/◌, ◌%◌, ◌||◌, ◌⊎◌, ℕ, Bool, true, false, List, [], ◌∷◌, refl, sym, ap, subst, ◌∙◌, inl, inr, eqb, arith}
+use Rattle.std.specs.List.{list_any}
+use Rattle.std.proofs.lemmas.Bool.{or_cases, eqb-true, ne_eqb, both_ways}
+use Rattle.msf_blocks.specs.Blocks.{IsBlockSize, IsReserved, block_sizes, blocks_of_size, is_reserved}
+use Rattle.msf_image.specs.Packed.{given, given_before}
+
+-- what holds at each of the four sizes
+pub at_each : (P : ℕ → Type 0) → P 512 → P 1024 → P 2048 → P 4096 → (n : ℕ) → IsBlockSize n → P n
+at_each P a b c d n h =
+    elim (or_cases (eqb 512 n) (list_any (λ size. eqb size n) (1024 ∷ 2048 ∷ 4096 ∷ [])) h) [
+      | inl is ↦ subst P (eqb-true 512 n is) a
+      | inr h1 ↦
+          elim (or_cases (eqb 1024 n) (list_any (λ size. eqb size n) (2048 ∷ 4096 ∷ [])) h1) [
+            | inl is ↦ subst P (eqb-true 1024 n is) b
+            | inr h2 ↦
+                elim (or_cases (eqb 2048 n) (list_any (λ size. eqb size n) (4096 ∷ [])) h2) [
+                  | inl is ↦ subst P (eqb-true 2048 n is) c
+                  | inr h3 ↦ elim (or_cases (eqb 4096 n) (list_any (λ size. eqb size n) []) h3) [ inl is ↦ subst P (eqb-true 4096 n is) d | inr never ↦ absurd (both_ways false refl never) ]
+                ]
+          ]
+    ]
+
+-- where the k-th given block stands
+pub record IsGiven (size k b : ℕ) : Type 0 where
+  pub least : 3 ≤ b
+  pub not_one : b % size ≡ 1 → ⊥
+  pub not_two : b % size ≡ 2 → ⊥
+  pub number : b - 3 - 2 * ((b - 1) / size) ≡ k
+
+given_at : (size : ℕ) → IsBlockSize size → (k : ℕ) → IsGiven size k (3 + k + 2 * (k / (size - 2)))
+given_at = at_each (λ size. (k : ℕ) → IsGiven size k (3 + k + 2 * (k / (size - 2)))) a b c d
+  where
+    a : (k : ℕ) → IsGiven 512 k (3 + k + 2 * (k / 510))
+    a k = record { least = omega arith; not_one = λ e. omega (arith, e); not_two = λ e. omega (arith, e); number = omega arith }
+
+    b : (k : ℕ) → IsGiven 1024 k (3 + k + 2 * (k / 1022))
+    b k = record { least = omega arith; not_one = λ e. omega (arith, e); not_two = λ e. omega (arith, e); number = omega arith }
+
+    c : (k : ℕ) → IsGiven 2048 k (3 + k + 2 * (k / 2046))
+    c k = record { least = omega arith; not_one = λ e. omega (arith, e); not_two = λ e. omega (arith, e); number = omega arith }
+
+    d : (k : ℕ) → IsGiven 4096 k (3 + k + 2 * (k / 4094))
+    d k = record { least = omega arith; not_one = λ e. omega (arith, e); not_two = λ e. omega (arith, e); number = omega arith }
+
+pub given_is : (size k : ℕ) → IsBlockSize size → IsGiven size k (given size k)
+unfolding given
+given_is size k h = given_at size h k
+
+pub given_before_given : (size k : ℕ) → IsBlockSize size → given_before size (given size k) ≡ k
+unfolding given_before
+given_before_given size k h = (given_is size k h).number
+
+-- none is reserved
+pub given_unreserved : (size k : ℕ) → IsBlockSize size → is_reserved size (given size k) ≡ false
+given_unreserved size k h =
+    let is = given_is size k h in
+    let zero_no = ne_eqb (given size k) 0 (λ e. omega (arith, e, is.least)) in
+    let one_no = ne_eqb (given size k % size) 1 is.not_one in
+    let two_no = ne_eqb (given size k % size) 2 is.not_two in
+    ap (λ t. t || eqb (given size k % size) 1 || eqb (given size k % size) 2) zero_no ∙ ap (λ t. false || t || eqb (given size k % size) 2) one_no ∙ ap (λ t. false || false || t) two_no
+
+-- they rise
+rising_by : (size : ℕ) → 512 ≤ size → (j k : ℕ) → j < k → j / (size - 2) ≤ k / (size - 2) → 3 + j + 2 * (j / (size - 2)) < 3 + k + 2 * (k / (size - 2))
+rising_by size least j k lt le = omega (arith, lt, le)
