@@ -61,5 +61,25 @@ given_unreserved size k h =
     ap (λ t. t || eqb (given size k % size) 1 || eqb (given size k % size) 2) zero_no ∙ ap (λ t. false || t || eqb (given size k % size) 2) one_no ∙ ap (λ t. false || false || t) two_no
 
 -- they rise
-rising_by : (size : ℕ) → 512 ≤ size → (j k : ℕ) → j < k → j / (size - 2) ≤ k / (size - 2) → 3 + j + 2 * (j / (size - 2)) < 3 + k + 2 * (k / (size - 2))
-rising_by size least j k lt le = omega (arith, lt, le)
+no_earlier_at : (size : ℕ) → IsBlockSize size → (j k : ℕ) → j ≤ k → 3 + j + 2 * (j / (size - 2)) ≤ 3 + k + 2 * (k / (size - 2))
+no_earlier_at = at_each (λ size. (j k : ℕ) → j ≤ k → 3 + j + 2 * (j / (size - 2)) ≤ 3 + k + 2 * (k / (size - 2))) a b c d
+  where
+    a : (j k : ℕ) → j ≤ k → 3 + j + 2 * (j / 510) ≤ 3 + k + 2 * (k / 510)
+    a j k le = omega arith
+
+    b : (j k : ℕ) → j ≤ k → 3 + j + 2 * (j / 1022) ≤ 3 + k + 2 * (k / 1022)
+    b j k le = omega arith
+
+    c : (j k : ℕ) → j ≤ k → 3 + j + 2 * (j / 2046) ≤ 3 + k + 2 * (k / 2046)
+    c j k le = omega arith
+
+    d : (j k : ℕ) → j ≤ k → 3 + j + 2 * (j / 4094) ≤ 3 + k + 2 * (k / 4094)
+    d j k le = omega arith
+
+pub no_earlier : (size j k : ℕ) → IsBlockSize size → j ≤ k → given size j ≤ given size k
+unfolding given
+no_earlier size j k h le = no_earlier_at size h j k le
+
+-- no two of them are one
+pub given_once : (size j k : ℕ) → IsBlockSize size → given size j ≡ given size k → j ≡ k
+given_once size j k h same = sym (given_before_given size j h) ∙ ap (given_before size) same ∙ given_before_given size k h

@@ -133,7 +133,7 @@ contents_laid s file content rest [] a h at each i = refl
 contents_laid s file content rest (x ∷ streams) a h at each zero =
     let count = blocks_of_size s.block (length x) in
     let more = sum_by-cons (λ (stream : List ℕ). blocks_of_size s.block (length stream)) x streams in
-    let pad = replicate (count * s.block - length x) 0 in
+    let pad : List ℕ = replicate (count * s.block - length x) 0 in
     ap (take (length x)) (run_of s.block file content (given s.block) a count (λ k from to. each k from (omega (arith, to, more)))
     ∙ run_is s.block content (filled s.block x) (flat_map (filled s.block) streams ++ rest) a count (length-filled s.block x h) (at ∙ append_assoc (filled s.block x) (flat_map (filled s.block) streams) rest))
     ∙ take_at x pad (length x) refl

@@ -7,3 +7,5 @@ mod Searching
 mod Opening
 mod Giving
 mod Laying
+mod PackedStreams
+mod PackedFile
