@@ -1,5 +1,5 @@
 -- A file that is laid out block by block: each block is read as it was laid.
-use Rattle.std.proofs.Common.{◌≡◌, ◌≤◌, ◌<◌, ◌+◌, ◌-◌, ◌*◌, ◌/◌, ◌%◌, ◌++◌, ◌||◌, ℕ, zero, suc, Bool, true, false, cond, eqb, List, [], ◌∷◌, length, map, take, drop, replicate, get_or, refl, sym, ap, subst, ◌∙◌, arith}
+use Rattle.std.proofs.Common.{◌≡◌, ◌≤◌, ◌<◌, ◌+◌, ◌-◌, ◌*◌, ◌/◌, ◌%◌, ◌++◌, ◌||◌, ℕ, zero, suc, Bool, true, false, cond, eqb, List, [], ◌∷◌, length, map, take, drop, replicate, get_or, Option, None, Some, refl, sym, ap, subst, ◌∙◌, arith}
 use Rattle.std.specs.List.{flat_map, range_with_len, sum_by}
 use Rattle.std.proofs.lemmas.Bool.{eq-eqb, ne_eqb}
 use Rattle.std.proofs.lemmas.List.{append_assoc, append-nil, drop-drop, drop_at, take_at, take-append-drop, take-append-le, length-append, length-drop, length-replicate, length-take, length-take-le}
@@ -8,7 +8,7 @@ use Rattle.std.proofs.Math.Nat.{add-mul, suc-mul}
 use Rattle.msf_blocks.specs.declared.superblock.Super.{Super}
 use Rattle.msf_blocks.specs.Blocks.{IsBlockSize, blocks_of_size}
 use Rattle.stream_directory.specs.Directory.{StreamBlocks, stream_at}
-use Rattle.msf_image.specs.Packed.{block_of, file_block, file_of, filled, given, given_before, given_from, stream_blocks, streams_from}
+use Rattle.msf_image.specs.Packed.{block_of, file_block, file_of, filled, given, given_before, given_from, stream_blocks, stream_bytes, stream_count, streams_from}
 use Rattle.msf_image.specs.Reads.{block_bytes, bytes_of_blocks, content_of}
 use Rattle.msf_image.proofs.Giving.{IsGiven, at_each, given_before_given, given_is}
 
@@ -126,23 +126,28 @@ length-filled size bytes h =
     omega (arith, length-append bytes (replicate pad 0), length-replicate {A = ℕ} pad 0, whole_blocks size h (length bytes))
 
 -- The blocks from the a-th given one on hold these streams, and each stream's content is read.
-pub contents_laid : (s : Super) (file content rest : List ℕ) (streams : List (List ℕ)) (a : ℕ) → IsBlockSize s.block → drop (a * s.block) content ≡ flat_map (filled s.block) streams ++ rest
+pub contents_laid : (s : Super) (file content rest : List ℕ) (streams : List (Option (List ℕ))) (a : ℕ) → IsBlockSize s.block
+    → drop (a * s.block) content ≡ flat_map (λ stream. filled s.block (stream_bytes stream)) streams ++ rest
     → ((k : ℕ) → a ≤ k → k < a + stream_blocks s.block streams → block_bytes s.block file (given s.block k) ≡ block_of s.block content k)
-    → (i : ℕ) → content_of file s (stream_at (streams_from s.block a streams) i) ≡ get_or streams i []
+    → (i : ℕ) → content_of file s (stream_at (streams_from s.block a streams) i) ≡ stream_bytes (get_or streams i None)
 contents_laid s file content rest [] a h at each i = refl
-contents_laid s file content rest (x ∷ streams) a h at each zero =
+contents_laid s file content rest (None ∷ streams) a h at each zero = refl
+contents_laid s file content rest (Some x ∷ streams) a h at each zero =
     let count = blocks_of_size s.block (length x) in
-    let more = sum_by-cons (λ (stream : List ℕ). blocks_of_size s.block (length stream)) x streams in
+    let more = sum_by-cons (stream_count s.block) (Some x) streams in
+    let behind = flat_map (λ stream. filled s.block (stream_bytes stream)) streams in
     let pad : List ℕ = replicate (count * s.block - length x) 0 in
     ap (take (length x)) (run_of s.block file content (given s.block) a count (λ k from to. each k from (omega (arith, to, more)))
-    ∙ run_is s.block content (filled s.block x) (flat_map (filled s.block) streams ++ rest) a count (length-filled s.block x h) (at ∙ append_assoc (filled s.block x) (flat_map (filled s.block) streams) rest))
+    ∙ run_is s.block content (filled s.block x) (behind ++ rest) a count (length-filled s.block x h) (at ∙ append_assoc (filled s.block x) behind rest))
     ∙ take_at x pad (length x) refl
 contents_laid s file content rest (x ∷ streams) a h at each (suc i) =
-    let count = blocks_of_size s.block (length x) in
-    let more = sum_by-cons (λ (stream : List ℕ). blocks_of_size s.block (length stream)) x streams in
-    let behind = flat_map (filled s.block) streams ++ rest in
+    let count = stream_count s.block x in
+    let more = sum_by-cons (stream_count s.block) x streams in
+    let streams_filled = flat_map (λ stream. filled s.block (stream_bytes stream)) streams in
+    let behind = streams_filled ++ rest in
+    let front = filled s.block (stream_bytes x) in
     let next : (a + count) * s.block ≡ a * s.block + count * s.block = omega (arith, add-mul a count s.block) in
     let later : drop ((a + count) * s.block) content ≡ behind =
-    ap (λ m. drop m content) next ∙ sym (drop-drop (count * s.block) (a * s.block) content) ∙ ap (drop (count * s.block)) (at ∙ append_assoc (filled s.block x) (flat_map (filled s.block) streams) rest)
-    ∙ drop_at (filled s.block x) behind (count * s.block) (length-filled s.block x h) in
+    ap (λ m. drop m content) next ∙ sym (drop-drop (count * s.block) (a * s.block) content) ∙ ap (drop (count * s.block)) (at ∙ append_assoc front streams_filled rest)
+    ∙ drop_at front behind (count * s.block) (length-filled s.block (stream_bytes x) h) in
     contents_laid s file content rest streams (a + count) h later (λ k from to. each k (omega (arith, from)) (omega (arith, to, more))) i

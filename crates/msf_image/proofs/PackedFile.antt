@@ -27,7 +27,7 @@ use Rattle.stream_directory.specs.Reading.{first_bad, reading, unless, words_in}
 use Rattle.stream_directory.proofs.Streams.{Spells-directory_text, none_from_usable, reading_again}
 use Rattle.msf_image.specs.declared.image.Image.{Image}
 use Rattle.msf_image.specs.declared.fault.OpenFault.{OpenFault}
-use Rattle.msf_image.specs.Packed.{IsPackable, block_of, directory_blocks_of, directory_bytes, file_of, filled, given, given_from, none_of, packed, packed_content, packed_directory, packed_image, packed_listed, packed_map_addr, packed_super, stream_blocks, streams_from}
+use Rattle.msf_image.specs.Packed.{IsPackable, block_of, directory_blocks_of, directory_bytes, file_of, filled, given, given_from, none_of, packed, packed_content, packed_directory, packed_image, packed_listed, packed_map_addr, packed_super, stream_blocks, stream_bytes, stream_count, streams_from}
 use Rattle.msf_image.specs.Reads.{active_map_blocks, block_bytes, bytes_of_blocks, content_of, free_blocks_in, listed_blocks, of_file, read_file, streams_in, superblock_in, tested, used_blocks, with_free, unless_free}
 use Rattle.msf_image.proofs.Directories.{done, map_inside}
 use Rattle.msf_image.proofs.Giving.{at_each}
@@ -56,18 +56,18 @@ superblock_from file limit s is front few inside =
     let found = passes (take 56 file) (length file) limit s (record { is_super = is; text = same; limited = few; inside = inside }) in
     ap (λ f. tested f (numbers_of (take 56 file))) found.0 ∙ ap Ok found.1
 
-packed_front : (size unknown : ℕ) (streams : List (List ℕ)) → IsPackable size streams → take 56 (packed size unknown streams) ≡ superblock_text (packed_super size unknown streams)
+packed_front : (size unknown : ℕ) (streams : List (Option (List ℕ))) → IsPackable size streams → take 56 (packed size unknown streams) ≡ superblock_text (packed_super size unknown streams)
 unfolding packed
 packed_front size unknown streams p =
     let s = packed_super size unknown streams in
     front_of size (superblock_text s) (packed size unknown streams) (sized size p.block).least (length-superblock_text s) (read_front size (superblock_text s) (map_text size (none_of s.blocks)) (packed_content size streams) s.blocks (omega arith))
 
-pub length-packed : (size unknown : ℕ) (streams : List (List ℕ)) → length (packed size unknown streams) ≡ (packed_map_addr size streams + 1) * size
+pub length-packed : (size unknown : ℕ) (streams : List (Option (List ℕ))) → length (packed size unknown streams) ≡ (packed_map_addr size streams + 1) * size
 unfolding packed
 length-packed size unknown streams =
     let s = packed_super size unknown streams in length-file_of size (superblock_text s) (map_text size (none_of s.blocks)) (packed_content size streams) s.blocks
 
-packed_superblock : (size unknown limit : ℕ) (streams : List (List ℕ)) → unknown < 2 ^ 32 → IsPackable size streams → packed_map_addr size streams + 1 ≤ limit
+packed_superblock : (size unknown limit : ℕ) (streams : List (Option (List ℕ))) → unknown < 2 ^ 32 → IsPackable size streams → packed_map_addr size streams + 1 ≤ limit
     → superblock_in (packed size unknown streams) limit ≡ Ok (packed_super size unknown streams)
 packed_superblock size unknown limit streams fits p few =
     let len = length-packed size unknown streams in
@@ -76,37 +76,37 @@ packed_superblock size unknown limit streams fits p few =
 -- ---- what the given blocks hold
 
 -- each given block up to the block map
-each_given : (size unknown : ℕ) (streams : List (List ℕ)) → IsPackable size streams → (k : ℕ) → k ≤ stream_blocks size streams + directory_blocks_of size streams
+each_given : (size unknown : ℕ) (streams : List (Option (List ℕ))) → IsPackable size streams → (k : ℕ) → k ≤ stream_blocks size streams + directory_blocks_of size streams
     → block_bytes size (packed size unknown streams) (given size k) ≡ block_of size (packed_content size streams) k
 unfolding packed
 each_given size unknown streams p k le =
     let s = packed_super size unknown streams in
     read_given size (superblock_text s) (map_text size (none_of s.blocks)) (packed_content size streams) s.blocks k p.block (inside_packed size unknown streams p.block k le)
 
-length-streams_filled : (size : ℕ) (streams : List (List ℕ)) → IsBlockSize size → length (flat_map (filled size) streams) ≡ stream_blocks size streams * size
+length-streams_filled : (size : ℕ) (streams : List (Option (List ℕ))) → IsBlockSize size → length (flat_map (λ stream. filled size (stream_bytes stream)) streams) ≡ stream_blocks size streams * size
 length-streams_filled size [] h = omega arith
 length-streams_filled size (x ∷ streams) h =
-    let count = blocks_of_size size (length x) in
-    let more = sum_by-cons (λ (stream : List ℕ). blocks_of_size size (length stream)) x streams in
-    omega (arith, length-append (filled size x) (flat_map (filled size) streams), length-filled size x h, length-streams_filled size streams h, add-mul count (stream_blocks size streams) size)
+    let count = stream_count size x in
+    let more = sum_by-cons (stream_count size) x streams in
+    omega (arith, length-append (filled size (stream_bytes x)) (flat_map (λ stream. filled size (stream_bytes stream)) streams), length-filled size (stream_bytes x) h, length-streams_filled size streams h, add-mul count (stream_blocks size streams) size)
     ∙ ap (λ n. n * size) (sym more)
 
 -- the directory's text behind the streams
-behind_streams : (size : ℕ) (streams : List (List ℕ)) → IsPackable size streams
+behind_streams : (size : ℕ) (streams : List (Option (List ℕ))) → IsPackable size streams
     → drop (stream_blocks size streams * size) (packed_content size streams) ≡ filled size (directory_text (packed_directory size streams)) ++ flat_map word (packed_listed size streams)
 unfolding packed_content
-behind_streams size streams p = drop_at (flat_map (filled size) streams) _ (stream_blocks size streams * size) (length-streams_filled size streams p.block)
+behind_streams size streams p = drop_at (flat_map (λ stream. filled size (stream_bytes stream)) streams) _ (stream_blocks size streams * size) (length-streams_filled size streams p.block)
 
-length-text_filled : (size : ℕ) (streams : List (List ℕ)) → IsPackable size streams → length (filled size (directory_text (packed_directory size streams))) ≡ directory_blocks_of size streams * size
+length-text_filled : (size : ℕ) (streams : List (Option (List ℕ))) → IsPackable size streams → length (filled size (directory_text (packed_directory size streams))) ≡ directory_blocks_of size streams * size
 length-text_filled size streams p =
-    length-filled size (directory_text (packed_directory size streams)) p.block ∙ ap (λ n. blocks_of_size size n * size) (length-packed_text size streams)
+    length-filled size (directory_text (packed_directory size streams)) p.block ∙ ap (λ n. blocks_of_size size n * size) (length-packed_text size streams p.block)
 
 -- and the block map behind it
-behind_text : (size : ℕ) (streams : List (List ℕ)) → IsPackable size streams
+behind_text : (size : ℕ) (streams : List (Option (List ℕ))) → IsPackable size streams
     → drop ((stream_blocks size streams + directory_blocks_of size streams) * size) (packed_content size streams) ≡ flat_map word (packed_listed size streams)
 unfolding packed_content
 behind_text size streams p =
-    let a = flat_map (filled size) streams in
+    let a = flat_map (λ stream. filled size (stream_bytes stream)) streams in
     let b = filled size (directory_text (packed_directory size streams)) in
     let c = flat_map word (packed_listed size streams) in
     let len : length (a ++ b) ≡ (stream_blocks size streams + directory_blocks_of size streams) * size =
@@ -135,11 +135,11 @@ words_back (n ∷ words) more h =
 listed_short : (size : ℕ) → IsBlockSize size → (bytes : ℕ) → bytes ≤ size * size / 4 → 4 * blocks_of_size size bytes ≤ size
 listed_short = at_each (λ size. (bytes : ℕ) → bytes ≤ size * size / 4 → 4 * blocks_of_size size bytes ≤ size) (λ bytes le. omega arith) (λ bytes le. omega arith) (λ bytes le. omega arith) (λ bytes le. omega arith)
 
-length-packed_listed : (size : ℕ) (streams : List (List ℕ)) → length (packed_listed size streams) ≡ directory_blocks_of size streams
+length-packed_listed : (size : ℕ) (streams : List (Option (List ℕ))) → length (packed_listed size streams) ≡ directory_blocks_of size streams
 unfolding packed_listed
 length-packed_listed size streams = length-map-range_with_len (given size) (stream_blocks size streams) (directory_blocks_of size streams)
 
-listed_words : (size unknown : ℕ) (streams : List (List ℕ)) → IsPackable size streams → AllByRecursion (λ b. b < 2 ^ 32) (packed_listed size streams)
+listed_words : (size unknown : ℕ) (streams : List (Option (List ℕ))) → IsPackable size streams → AllByRecursion (λ b. b < 2 ^ 32) (packed_listed size streams)
 unfolding packed_listed
 listed_words size unknown streams p =
     given_words size (stream_blocks size streams) (directory_blocks_of size streams) (packed_map_addr size streams + 1) (omega (arith, p.blocks)) (λ k from to. inside_packed size unknown streams p.block k (omega (arith, to)))
@@ -159,12 +159,12 @@ map_words size bytes words k short fits at =
     let front = part_front size k bytes (flat_map word words) (omega (arith, length-word_text words, short)) at in
     ap (λ ys. take (length words) (words_in ys)) front.1 ∙ words_back words front.0 fits
 
-map_addr_read : (size unknown : ℕ) (streams : List (List ℕ)) → IsPackable size streams
+map_addr_read : (size unknown : ℕ) (streams : List (Option (List ℕ))) → IsPackable size streams
     → block_bytes size (packed size unknown streams) (packed_map_addr size streams) ≡ block_of size (packed_content size streams) (stream_blocks size streams + directory_blocks_of size streams)
 unfolding packed_map_addr
 map_addr_read size unknown streams p = each_given size unknown streams p (stream_blocks size streams + directory_blocks_of size streams) (omega arith)
 
-packed_blocks_listed : (size unknown : ℕ) (streams : List (List ℕ)) → IsPackable size streams
+packed_blocks_listed : (size unknown : ℕ) (streams : List (Option (List ℕ))) → IsPackable size streams
     → take (directory_blocks_of size streams) (words_in (block_bytes size (packed size unknown streams) (packed_map_addr size streams))) ≡ packed_listed size streams
 packed_blocks_listed size unknown streams p =
     let len = length-packed_listed size streams in
@@ -179,14 +179,14 @@ unfolding listed_blocks
 listed_from file listed s are none =
     ap (λ blocks. of_file (unless (first_bad s [] (s.map_addr ∷ blocks)) (s.map_addr ∷ blocks))) are ∙ ap (λ f. of_file (unless f (s.map_addr ∷ listed))) none
 
-packed_listed_blocks : (size unknown : ℕ) (streams : List (List ℕ)) → IsPackable size streams
+packed_listed_blocks : (size unknown : ℕ) (streams : List (Option (List ℕ))) → IsPackable size streams
     → listed_blocks (packed size unknown streams) (packed_super size unknown streams) ≡ Ok (packed_map_addr size streams ∷ packed_listed size streams)
 packed_listed_blocks size unknown streams p =
     let s = packed_super size unknown streams in
     listed_from (packed size unknown streams) (packed_listed size streams) s (packed_blocks_listed size unknown streams p) (none_from_usable s [] (packed_map_addr size streams ∷ packed_listed size streams) (listed_usable size unknown streams p))
 
 -- the directory's text is read
-text_read : (size unknown : ℕ) (streams : List (List ℕ)) → IsPackable size streams → bytes_of_blocks size (packed size unknown streams) (packed_listed size streams) ≡ filled size (directory_text (packed_directory size streams))
+text_read : (size unknown : ℕ) (streams : List (Option (List ℕ))) → IsPackable size streams → bytes_of_blocks size (packed size unknown streams) (packed_listed size streams) ≡ filled size (directory_text (packed_directory size streams))
 unfolding packed_listed
 text_read size unknown streams p =
     let n = stream_blocks size streams in
@@ -201,7 +201,7 @@ streams_from_text : (file listed text : List ℕ) (s : Super) (map_addr : ℕ) (
 unfolding streams_in
 streams_from_text file listed text s map_addr streams are read = ap (λ t. of_file (reading s (map_addr ∷ listed) t)) are ∙ ap of_file read
 
-packed_streams : (size unknown : ℕ) (streams : List (List ℕ)) → unknown < 2 ^ 32 → IsPackable size streams
+packed_streams : (size unknown : ℕ) (streams : List (Option (List ℕ))) → unknown < 2 ^ 32 → IsPackable size streams
     → streams_in (packed size unknown streams) (packed_super size unknown streams) (packed_map_addr size streams ∷ packed_listed size streams) ≡ Ok (packed_directory size streams)
 packed_streams size unknown streams fits p =
     let s = packed_super size unknown streams in
@@ -209,7 +209,7 @@ packed_streams size unknown streams fits p =
     let text = directory_text directory in
     let listed = packed_listed size streams in
     let pad : List ℕ = replicate (blocks_of_size size (length text) * size - length text) 0 in
-    let cut : take (directory_bytes size streams) (filled size text) ≡ text = take_at text pad (directory_bytes size streams) (length-packed_text size streams) in
+    let cut : take (directory_bytes size streams) (filled size text) ≡ text = take_at text pad (directory_bytes size streams) (length-packed_text size streams p.block) in
     streams_from_text (packed size unknown streams) listed text s (packed_map_addr size streams) directory (ap (take (directory_bytes size streams)) (text_read size unknown streams p) ∙ cut)
     (reading_again s (packed_map_addr size streams ∷ listed) text directory (omega (arith, p.blocks)) (is_directory size unknown streams p) (Spells-directory_text size directory text (none_skipped size streams p) refl))
 
@@ -238,7 +238,7 @@ map_again size blocks some =
     let same : record { blocks = blocks; free = bits } ≡ none_of blocks = ap (λ free. record { blocks = blocks; free = free }) empty in
     ap (λ m. free_in size blocks (map_text size m)) (sym same) ∙ ap (free_in size blocks) (sym again.0) ∙ again.1 ∙ same
 
-map_read : (size unknown : ℕ) (streams : List (List ℕ)) → unknown < 2 ^ 32 → IsPackable size streams
+map_read : (size unknown : ℕ) (streams : List (Option (List ℕ))) → unknown < 2 ^ 32 → IsPackable size streams
     → bytes_of_blocks size (packed size unknown streams) (active_map_blocks (packed_super size unknown streams)) ≡ map_text size (none_of (packed_map_addr size streams + 1))
 unfolding packed
 map_read size unknown streams fits p =
@@ -256,7 +256,7 @@ map_read size unknown streams fits p =
     read_map size (superblock_text s) text (packed_content size streams) s.blocks k p.block (omega (arith, place, inside k 0 there)))
     ∙ run_is size text text [] 0 n (length-map_text size s.blocks) at
 
-packed_free : (size unknown : ℕ) (streams : List (List ℕ)) → unknown < 2 ^ 32 → IsPackable size streams
+packed_free : (size unknown : ℕ) (streams : List (Option (List ℕ))) → unknown < 2 ^ 32 → IsPackable size streams
     → free_blocks_in (packed size unknown streams) (packed_super size unknown streams) ≡ none_of (packed_map_addr size streams + 1)
 unfolding free_blocks_in
 packed_free size unknown streams fits p =
@@ -275,7 +275,7 @@ none_used_free used s directory blocks =
 
 -- ---- the law
 
-pub packed_reads : (size unknown limit : ℕ) (streams : List (List ℕ)) → unknown < 2 ^ 32 → IsPackable size streams → packed_map_addr size streams + 1 ≤ limit
+pub packed_reads : (size unknown limit : ℕ) (streams : List (Option (List ℕ))) → unknown < 2 ^ 32 → IsPackable size streams → packed_map_addr size streams + 1 ≤ limit
     → read_file (packed size unknown streams) limit ≡ Ok (packed_image size unknown streams)
 packed_reads size unknown limit streams fits p few =
     let file = packed size unknown streams in
@@ -287,11 +287,11 @@ packed_reads size unknown limit streams fits p few =
     (ap done (packed_free size unknown streams fits p))
     ∙ none_used_free (used_blocks listed directory) s directory blocks
 
-pub packed_contents : (size unknown i : ℕ) (streams : List (List ℕ)) → IsPackable size streams
-    → content_of (packed size unknown streams) (packed_super size unknown streams) (stream_at (packed_directory size streams) i) ≡ get_or streams i []
+pub packed_contents : (size unknown i : ℕ) (streams : List (Option (List ℕ))) → IsPackable size streams
+    → content_of (packed size unknown streams) (packed_super size unknown streams) (stream_at (packed_directory size streams) i) ≡ stream_bytes (get_or streams i None)
 unfolding packed_directory packed_content
 packed_contents size unknown i streams p =
     let rest = filled size (directory_text (packed_directory size streams)) ++ flat_map word (packed_listed size streams) in
     let none : 0 * size ≡ 0 = omega arith in
-    let at : drop (0 * size) (packed_content size streams) ≡ flat_map (filled size) streams ++ rest = ap (λ m. drop m (packed_content size streams)) none in
+    let at : drop (0 * size) (packed_content size streams) ≡ flat_map (λ stream. filled size (stream_bytes stream)) streams ++ rest = ap (λ m. drop m (packed_content size streams)) none in
     contents_laid (packed_super size unknown streams) (packed size unknown streams) (packed_content size streams) rest streams 0 p.block at (λ k from to. each_given size unknown streams p k (omega (arith, to))) i

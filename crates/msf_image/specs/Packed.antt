@@ -1,5 +1,5 @@
 -- A packed file: streams in a file that has no free block.
-use Rattle.std.specs.Prelude.{◌≡◌, ◌≤◌, ◌<◌, ℕ, ◌+◌, ◌-◌, ◌*◌, ◌/◌, ◌%◌, ◌^◌, ◌==◌, if◌then◌else◌, List, [], ◌∷◌, ◌++◌, length, map, take, drop, replicate, All, Option, Some}
+use Rattle.std.specs.Prelude.{◌≡◌, ◌≤◌, ◌<◌, ℕ, ◌+◌, ◌-◌, ◌*◌, ◌/◌, ◌%◌, ◌^◌, ◌==◌, if◌then◌else◌, List, [], ◌∷◌, ◌++◌, length, map, take, drop, replicate, slice_index_or, All, Option, Some, None}
 use Rattle.std.specs.List.{flat_map, range_with_len, sum_by}
 use Rattle.msf_blocks.specs.declared.superblock.Super.{Super}
 use Rattle.msf_blocks.specs.Blocks.{IsBlockSize, block_offset, blocks_of_size}
@@ -29,36 +29,47 @@ given_before size b = b - 3 - 2 * ((b - 1) / size)
 abbrev pub given_from : ℕ → ℕ → ℕ → List ℕ
 given_from size k count = map (given size) (range_with_len k count)
 
--- how many blocks the streams have
-abbrev pub stream_blocks : ℕ → List (List ℕ) → ℕ
-stream_blocks size streams = sum_by (λ stream. blocks_of_size size (length stream)) streams
+-- A stream is its bytes, or absent. An absent one has none.
+abbrev pub stream_bytes : Option (List ℕ) → List ℕ
+stream_bytes None = []
+stream_bytes (Some bytes) = bytes
+
+-- how many blocks a stream has, and all streams
+abbrev pub stream_count : ℕ → Option (List ℕ) → ℕ
+stream_count size stream = blocks_of_size size (length (stream_bytes stream))
+
+abbrev pub stream_blocks : ℕ → List (Option (List ℕ)) → ℕ
+stream_blocks size streams = sum_by (stream_count size) streams
+
+-- a stream with its blocks, of which the first is the k-th given one
+abbrev pub stream_from : ℕ → ℕ → Option (List ℕ) → Option StreamBlocks
+stream_from size k None = None
+stream_from size k (Some bytes) = Some (record { size = length bytes; blocks = given_from size k (blocks_of_size size (length bytes)) })
 
 -- the streams, each with the blocks that come next
-abbrev pub streams_from : ℕ → ℕ → List (List ℕ) → List (Option StreamBlocks)
+abbrev pub streams_from : ℕ → ℕ → List (Option (List ℕ)) → List (Option StreamBlocks)
 streams_from size k [] = []
-streams_from size k (stream ∷ streams) =
-    let count = blocks_of_size size (length stream) in
-    Some (record { size = length stream; blocks = given_from size k count }) ∷ streams_from size (k + count) streams
+streams_from size k (stream ∷ streams) = stream_from size k stream ∷ streams_from size (k + stream_count size stream) streams
 
-unfoldable pub packed_directory : ℕ → List (List ℕ) → List (Option StreamBlocks)
+unfoldable pub packed_directory : ℕ → List (Option (List ℕ)) → List (Option StreamBlocks)
 packed_directory size streams = streams_from size 0 streams
 
 -- how many bytes and blocks the directory has
-unfoldable pub directory_bytes : ℕ → List (List ℕ) → ℕ
+unfoldable pub directory_bytes : ℕ → List (Option (List ℕ)) → ℕ
 directory_bytes size streams = 4 + 4 * length streams + 4 * stream_blocks size streams
 
-abbrev pub directory_blocks_of : ℕ → List (List ℕ) → ℕ
+abbrev pub directory_blocks_of : ℕ → List (Option (List ℕ)) → ℕ
 directory_blocks_of size streams = blocks_of_size size (directory_bytes size streams)
 
 -- the blocks of the directory, which come behind those of the streams
-unfoldable pub packed_listed : ℕ → List (List ℕ) → List ℕ
+unfoldable pub packed_listed : ℕ → List (Option (List ℕ)) → List ℕ
 packed_listed size streams = given_from size (stream_blocks size streams) (directory_blocks_of size streams)
 
 -- the block map, which comes last
-unfoldable pub packed_map_addr : ℕ → List (List ℕ) → ℕ
+unfoldable pub packed_map_addr : ℕ → List (Option (List ℕ)) → ℕ
 packed_map_addr size streams = given size (stream_blocks size streams + directory_blocks_of size streams)
 
-abbrev pub packed_super : ℕ → ℕ → List (List ℕ) → Super
+abbrev pub packed_super : ℕ → ℕ → List (Option (List ℕ)) → Super
 packed_super size unknown streams = record {
   block = size;
   map = 1;
@@ -73,7 +84,7 @@ abbrev pub none_of : ℕ → FreeBlocks
 none_of blocks = record { blocks = blocks; free = [] }
 
 -- what a packed file reads as
-abbrev pub packed_image : ℕ → ℕ → List (List ℕ) → Image
+abbrev pub packed_image : ℕ → ℕ → List (Option (List ℕ)) → Image
 packed_image size unknown streams = record {
   head = packed_super size unknown streams;
   directory = packed_directory size streams;
@@ -81,9 +92,9 @@ packed_image size unknown streams = record {
 }
 
 -- what the given blocks hold in their order: the streams, the directory and the block map
-unfoldable pub packed_content : ℕ → List (List ℕ) → List ℕ
+unfoldable pub packed_content : ℕ → List (Option (List ℕ)) → List ℕ
 packed_content size streams =
-    flat_map (filled size) streams ++ (filled size (directory_text (packed_directory size streams)) ++ flat_map word (packed_listed size streams))
+    flat_map (λ stream. filled size (stream_bytes stream)) streams ++ (filled size (directory_text (packed_directory size streams)) ++ flat_map word (packed_listed size streams))
 
 -- Block b of a file: the superblock, a block of map 1, one of map 2, or a given one.
 unfoldable pub file_block : ℕ → List ℕ → List ℕ → List ℕ → ℕ → List ℕ
@@ -98,16 +109,16 @@ unfoldable pub file_of : ℕ → List ℕ → List ℕ → List ℕ → ℕ → 
 file_of size head map1 content blocks = flat_map (file_block size head map1 content) (range_with_len 0 blocks)
 
 -- the packed file of these streams
-unfoldable pub packed : ℕ → ℕ → List (List ℕ) → List ℕ
+unfoldable pub packed : ℕ → ℕ → List (Option (List ℕ)) → List ℕ
 packed size unknown streams =
     let s = packed_super size unknown streams in
     file_of size (superblock_text s) (map_text size (none_of s.blocks)) (packed_content size streams) s.blocks
 
--- Streams that a packed file can hold. The first is empty.
-pub record IsPackable (size : ℕ) (streams : List (List ℕ)) : Type 0 where
+-- Streams that a packed file can hold. Stream 0 is empty or absent.
+pub record IsPackable (size : ℕ) (streams : List (Option (List ℕ))) : Type 0 where
   pub block : IsBlockSize size
-  pub first : take 1 streams ≡ [] ∷ []
+  pub first : stream_bytes (slice_index_or streams 0 None) ≡ []
   pub few : length streams < 2 ^ 16
-  pub sizes : All (λ stream. length stream < absent_size) streams
+  pub sizes : All (λ stream. length (stream_bytes stream) < absent_size) streams
   pub directory : directory_bytes size streams ≤ size * size / 4
   pub blocks : packed_map_addr size streams + 1 ≤ 2 ^ 20
