@@ -9,3 +9,4 @@ mod Giving
 mod Laying
 mod PackedStreams
 mod PackedFile
+mod PackedLoops

@@ -144,7 +144,7 @@ unfolding packed_listed
 listed_words size unknown streams p =
     given_words size (stream_blocks size streams) (directory_blocks_of size streams) (packed_map_addr size streams + 1) (omega (arith, p.blocks)) (λ k from to. inside_packed size unknown streams p.block k (omega (arith, to)))
 
-front_and_more : (n : ℕ) (xs ys : List ℕ) → length xs ≤ n → take n (xs ++ ys) ≡ xs ++ take (n - length xs) ys
+pub front_and_more : (n : ℕ) (xs ys : List ℕ) → length xs ≤ n → take n (xs ++ ys) ≡ xs ++ take (n - length xs) ys
 front_and_more n xs ys short =
     let whole : n ≡ length xs + (n - length xs) = omega (arith, short) in
     ap (λ m. take m (xs ++ ys)) whole ∙ take-append-add xs ys (n - length xs)

@@ -30,7 +30,7 @@ given_from-more size k (suc n) m =
     let all : suc (n + m) ≡ suc n + m = omega arith in
     ap (λ j. given size k ∷ (given_from size (k + 1) n ++ given_from size j m)) here ∙ ap (λ xs. given size k ∷ xs) (given_from-more size (k + 1) n m) ∙ ap (given_from size k) all
 
-length-streams_from : (size k : ℕ) (streams : List (Option (List ℕ))) → length (streams_from size k streams) ≡ length streams
+pub length-streams_from : (size k : ℕ) (streams : List (Option (List ℕ))) → length (streams_from size k streams) ≡ length streams
 length-streams_from size k [] = refl
 length-streams_from size k (x ∷ streams) = ap (λ n. suc n) (length-streams_from size (k + stream_count size x) streams)
 

@@ -34,6 +34,10 @@ abbrev pub stream_bytes : Option (List ℕ) → List ℕ
 stream_bytes None = []
 stream_bytes (Some bytes) = bytes
 
+-- streams that are all there
+abbrev pub present : List (List ℕ) → List (Option (List ℕ))
+present streams = map Some streams
+
 -- how many blocks a stream has, and all streams
 abbrev pub stream_count : ℕ → Option (List ℕ) → ℕ
 stream_count size stream = blocks_of_size size (length (stream_bytes stream))
@@ -54,9 +58,12 @@ streams_from size k (stream ∷ streams) = stream_from size k stream ∷ streams
 unfoldable pub packed_directory : ℕ → List (Option (List ℕ)) → List (Option StreamBlocks)
 packed_directory size streams = streams_from size 0 streams
 
--- how many bytes and blocks the directory has
+-- how many bytes and blocks a directory has, by the number of its streams and of their blocks
+abbrev pub directory_len : ℕ → ℕ → ℕ
+directory_len streams blocks = 4 + 4 * streams + 4 * blocks
+
 unfoldable pub directory_bytes : ℕ → List (Option (List ℕ)) → ℕ
-directory_bytes size streams = 4 + 4 * length streams + 4 * stream_blocks size streams
+directory_bytes size streams = directory_len (length streams) (stream_blocks size streams)
 
 abbrev pub directory_blocks_of : ℕ → List (Option (List ℕ)) → ℕ
 directory_blocks_of size streams = blocks_of_size size (directory_bytes size streams)
@@ -122,3 +129,8 @@ pub record IsPackable (size : ℕ) (streams : List (Option (List ℕ))) : Type 0
   pub sizes : All (λ stream. length (stream_bytes stream) < absent_size) streams
   pub directory : directory_bytes size streams ≤ size * size / 4
   pub blocks : packed_map_addr size streams + 1 ≤ 2 ^ 20
+
+-- its last two tests, by the number of the streams and of their blocks
+pub record IsSmall (size streams kept : ℕ) : Type 0 where
+  pub directory : directory_len streams kept ≤ size * size / 4
+  pub blocks : given size (kept + blocks_of_size size (directory_len streams kept)) + 1 ≤ 2 ^ 20

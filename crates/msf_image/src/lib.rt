@@ -5,7 +5,9 @@ mod blocks;
 mod fault;
 mod image;
 mod open;
+mod packed;
 
 pub use crate::fault::{DamageKind, OpenFault};
 pub use crate::image::Image;
 pub use crate::open::open_image;
+pub use crate::packed::{is_packable, new_file};
