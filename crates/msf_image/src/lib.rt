@@ -11,3 +11,6 @@ pub use crate::fault::{DamageKind, OpenFault};
 pub use crate::image::Image;
 pub use crate::open::open_image;
 pub use crate::packed::{is_packable, new_file};
+
+#[cfg(test)]
+mod packed_tests;

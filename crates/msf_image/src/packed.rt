@@ -17,6 +17,7 @@ use stream_directory::{ABSENT_SIZE, Directory, Stream, write_directory};
 
 // A packed file has no more blocks, and fewer streams.
 const MOST_BLOCKS: u32 = 1_048_576;
+
 const MOST_STREAMS: usize = 65_536;
 
 /// The packed file of these streams, whose number without a known meaning is 0. It takes memory for the file and for
