@@ -1,7 +1,7 @@
 -- The blocks that are given: in order, none of them reserved, and every one of them.
 use Rattle.std.proofs.Common.{◌≡◌, ◌≤◌, ◌<◌, ◌+◌, ◌-◌, ◌*◌, ◌/◌, ◌%◌, ◌||◌, ◌⊎◌, ℕ, Bool, true, false, List, [], ◌∷◌, refl, sym, ap, subst, ◌∙◌, inl, inr, eqb, arith}
 use Rattle.std.specs.List.{list_any}
-use Rattle.std.proofs.lemmas.Bool.{or_cases, eqb-true, ne_eqb, both_ways}
+use Rattle.std.proofs.lemmas.Bool.{or_cases, eq-eqb, eqb-true, ne_eqb, both_ways}
 use Rattle.msf_blocks.specs.Blocks.{IsBlockSize, IsReserved, block_sizes, blocks_of_size, is_reserved}
 use Rattle.msf_image.specs.Packed.{given, given_before}
 
@@ -83,3 +83,42 @@ no_earlier size j k h le = no_earlier_at size h j k le
 -- no two of them are one
 pub given_once : (size j k : ℕ) → IsBlockSize size → given size j ≡ given size k → j ≡ k
 given_once size j k h same = sym (given_before_given size j h) ∙ ap (given_before size) same ∙ given_before_given size k h
+
+pub rises : (size j k : ℕ) → IsBlockSize size → j < k → given size j < given size k
+rises size j k h lt =
+    let le : given size j ≤ given size k = no_earlier size j k h (omega (arith, lt)) in
+    let apart : given size j ≡ given size k → ⊥ = λ e. let same = given_once size j k h e in omega (arith, same, lt) in
+    omega (arith, le, apart)
+
+-- and none is left out
+found_at : (size : ℕ) → IsBlockSize size → (b : ℕ) → 3 ≤ b → (b % size ≡ 1 → ⊥) → (b % size ≡ 2 → ⊥) → 3 + (b - 3 - 2 * ((b - 1) / size)) + 2 * ((b - 3 - 2 * ((b - 1) / size)) / (size - 2)) ≡ b
+found_at = at_each (λ size. (b : ℕ) → 3 ≤ b → (b % size ≡ 1 → ⊥) → (b % size ≡ 2 → ⊥) → 3 + (b - 3 - 2 * ((b - 1) / size)) + 2 * ((b - 3 - 2 * ((b - 1) / size)) / (size - 2)) ≡ b) one two three four
+  where
+    one : (b : ℕ) → 3 ≤ b → (b % 512 ≡ 1 → ⊥) → (b % 512 ≡ 2 → ⊥) → 3 + (b - 3 - 2 * ((b - 1) / 512)) + 2 * ((b - 3 - 2 * ((b - 1) / 512)) / 510) ≡ b
+    one b least first second = omega (arith, least, first, second)
+
+    two : (b : ℕ) → 3 ≤ b → (b % 1024 ≡ 1 → ⊥) → (b % 1024 ≡ 2 → ⊥) → 3 + (b - 3 - 2 * ((b - 1) / 1024)) + 2 * ((b - 3 - 2 * ((b - 1) / 1024)) / 1022) ≡ b
+    two b least first second = omega (arith, least, first, second)
+
+    three : (b : ℕ) → 3 ≤ b → (b % 2048 ≡ 1 → ⊥) → (b % 2048 ≡ 2 → ⊥) → 3 + (b - 3 - 2 * ((b - 1) / 2048)) + 2 * ((b - 3 - 2 * ((b - 1) / 2048)) / 2046) ≡ b
+    three b least first second = omega (arith, least, first, second)
+
+    four : (b : ℕ) → 3 ≤ b → (b % 4096 ≡ 1 → ⊥) → (b % 4096 ≡ 2 → ⊥) → 3 + (b - 3 - 2 * ((b - 1) / 4096)) + 2 * ((b - 3 - 2 * ((b - 1) / 4096)) / 4094) ≡ b
+    four b least first second = omega (arith, least, first, second)
+
+pub none_left : (size b : ℕ) → IsBlockSize size → 3 ≤ b → ¬ IsReserved size b → given size (given_before size b) ≡ b
+unfolding given given_before
+none_left size b h least unreserved =
+    found_at size h b least (λ e. unreserved (ap (λ t. eqb b 0 || t || eqb (b % size) 2) (eq-eqb (b % size) 1 e) ∙ middle (eqb b 0) (eqb (b % size) 2)))
+    (λ e. unreserved (ap (λ t. eqb b 0 || eqb (b % size) 1 || t) (eq-eqb (b % size) 2 e) ∙ last (eqb b 0 || eqb (b % size) 1)))
+  where
+    middle : (t u : Bool) → (t || true || u) ≡ true
+    middle true u = refl
+    middle false u = refl
+
+    last : (t : Bool) → (t || true) ≡ true
+    last true = refl
+    last false = refl
+
+pub unreserved_given : (size k : ℕ) → IsBlockSize size → ¬ IsReserved size (given size k)
+unreserved_given size k h reserved = both_ways (is_reserved size (given size k)) (given_unreserved size k h) reserved
