@@ -109,8 +109,9 @@ fn lay_file(alloc: Global, block: u32, streams: &[Text]) -> Result<Vec<u8>, Allo
     let dir_bytes = text.len() as u32;
     let count = blocks_of_size(block, dir_bytes);
     let listed = given_from(alloc, block, kept, count)?;
-    let content = content_of(alloc, block, streams, &text, &listed)?;
-    let map_addr = given(block, kept + count);
+    let last = kept + count;
+    let content = content_of(alloc, block, last, streams, &text, &listed)?;
+    let map_addr = given(block, last);
     let head = Super {
         block,
         map: 1,
@@ -163,10 +164,11 @@ fn given(block: u32, k: u32) -> u32
     3 + k + 2 * (k / (block - 2))
 }
 
-// What the given blocks hold.
+// What the given blocks hold, of which the last is the block map.
 fn content_of(
     alloc: Global,
     block: u32,
+    last: u32,
     streams: &[Text],
     text: &[u8],
     listed: &[u32],
@@ -176,7 +178,7 @@ fn content_of(
     requires short { length text.now < absent_size }
     ensures { IfOk result (λ content. content.items ≡ flat_map (filled block) streams.now ++ (filled block text.now ++ flat_map word listed.now)) }
 {
-    let mut content = Vec::new(alloc);
+    let mut content = Vec::with_capacity(alloc, (last as usize + 1) * block as usize)?;
     for stream in streams {
         put_filled(&mut content, block, stream.bytes())?;
     }

@@ -34,8 +34,8 @@ content_of-requires-clause-short c =
     let room = has_room c.args.block (present c.args.streams.now) c.requires in
     omega (arith, len, room.text, c.deref.ensures.len, c.len-dir_bytes.ensures)
 
-pub overflow_add-kept : goal.overflow_add-kept
-overflow_add-kept c =
+pub overflow_add-last : goal.overflow_add-last
+overflow_add-last c =
     let len = bytes_as c.args.block c.len-dir_bytes.result (present c.args.streams.now) c.in_ok-directory.directory c.in_ok-text.text.items c.requires.block c.in_ok-directory.ensures c.in_ok-text.ensures.text (omega (arith, c.len-dir_bytes.ensures)) in
     let room = has_room c.args.block (present c.args.streams.now) c.requires in
     let count = c.blocks_of_size-count.ensures ∙ ap (blocks_of_size c.args.block) len in
