@@ -5,3 +5,8 @@ mod Listed
 mod Directories
 mod Searching
 mod Opening
+mod Giving
+mod Laying
+mod PackedStreams
+mod PackedFile
+mod PackedLoops

@@ -4,8 +4,15 @@
 mod blocks;
 mod fault;
 mod image;
+mod laws;
 mod open;
+mod packed;
 
 pub use crate::fault::{DamageKind, OpenFault};
 pub use crate::image::Image;
+pub use crate::laws::{given_in_order, packed_file_reads};
 pub use crate::open::open_image;
+pub use crate::packed::{is_packable, new_file};
+
+#[cfg(test)]
+mod packed_tests;

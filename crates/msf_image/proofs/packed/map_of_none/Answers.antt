@@ -1,0 +1,11 @@
+use Rattle.std.proofs.Common.{◌≡◌, ap, subst, sym, ◌∙◌, ◌+◌, ◌/◌}
+use Rattle.std.specs.Prelude.{IfOk}
+use Rattle.free_page_maps.specs.FreeBlocks.{free_in}
+use Rattle.free_page_maps.specs.MapText.{map_text}
+use Rattle.msf_image.proofs.PackedLoops.{zeros_free}
+use Rattle.msf_image.proofs.packed.map_of_none.Goals as goal
+
+pub returns : goal.returns
+returns c =
+    let none = c.in_ok-free.ensures.free ∙ ap (free_in c.args.block c.args.blocks) (c.deref.ensures.value ∙ c.in_ok-zeros.ensures.items_if_clones_equal (λ y e. e)) ∙ zeros_free c.args.block c.args.blocks (c.args.blocks / 8 + 1) in
+    subst (λ m. IfOk c.scatter.result (λ map. map.items ≡ map_text c.args.block m)) none c.scatter.ensures.text
