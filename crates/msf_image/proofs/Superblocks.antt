@@ -33,8 +33,8 @@ superblock_read : (file bytes : List ℕ) (len limit : ℕ) → len ≡ length f
 unfolding superblock_in
 superblock_read file bytes len limit is front =
     elim (cases_lt len 56) [
-      inr long ↦ ap (λ n. tested (first_fault (superblock_tests (take 56 file) n limit)) (numbers_of (take 56 file))) (sym is) ∙ ap (λ b. tested (first_fault (superblock_tests b len limit)) (numbers_of b)) (sym (front long)) |
-      inl short ↦ short_file (take 56 file) (length file) limit (omega (arith, short, is)) ∙ sym (short_file bytes len limit short)
+      | inr long ↦ ap (λ n. tested (first_fault (superblock_tests (take 56 file) n limit)) (numbers_of (take 56 file))) (sym is) ∙ ap (λ b. tested (first_fault (superblock_tests b len limit)) (numbers_of b)) (sym (front long))
+      | inl short ↦ short_file (take 56 file) (length file) limit (omega (arith, short, is)) ∙ sym (short_file bytes len limit short)
     ]
 
 pub superblock_ok : (file bytes : List ℕ) (len limit : ℕ) (s : Super) → len ≡ length file → (56 ≤ len → bytes ≡ take 56 file) → Answers (Ok s) bytes len limit → superblock_in file limit ≡ Ok s

@@ -19,6 +19,7 @@ pub enum ReadFault {
 
 impl From<Failed> for ReadFault {
     ghost use Rattle.msf_image.specs.declared.blocks.ReadFault.TheVariants as fault;
+
     ghost from_gives = { λ _ e. e ≡ fault.Failed };
 
     fn from(_e: Failed) -> ReadFault {
@@ -28,6 +29,7 @@ impl From<Failed> for ReadFault {
 
 impl From<AllocError> for ReadFault {
     ghost use Rattle.msf_image.specs.declared.blocks.ReadFault.TheVariants as fault;
+
     ghost from_gives = { λ _ e. e ≡ fault.OutOfMemory };
 
     fn from(_e: AllocError) -> ReadFault {

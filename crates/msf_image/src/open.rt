@@ -22,11 +22,7 @@ use stream_directory::{Directory, Stream, judge, read_directory_behind, words_of
 
 /// Reads a file as its container, which may have at most so many blocks. Nothing is written. It takes memory for one
 /// block, the directory and the map alone, whatever the file's length says.
-pub fn open_image<D: Device>(
-    alloc: Global,
-    device: &mut D,
-    limit: u32,
-) -> Result<Image, OpenFault>
+pub fn open_image<D: Device>(alloc: Global, device: &mut D, limit: u32) -> Result<Image, OpenFault>
     requires limit { limit ≤ 2 ^ 20 }
     // What is read is what the file reads as, and the damage is its first.
     ensures reads { IsTrue D.tells → Tells (λ image. image) result (read_file (D.seen device.old) limit) }
@@ -43,7 +39,14 @@ pub fn open_image<D: Device>(
     let listed = read_listed(alloc, device, &head)?;
     let directory = read_streams(alloc, device, &head, &listed)?;
     let free = read_free_blocks(alloc, device, &head)?;
-    judge_used(Image { head, directory, free }, &listed)
+    judge_used(
+        Image {
+            head,
+            directory,
+            free,
+        },
+        &listed,
+    )
 }
 
 // The superblock, or the first test that it fails.
