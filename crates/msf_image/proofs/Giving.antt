@@ -1,8 +1,8 @@
 -- The blocks that are given: in order, none of them reserved, and every one of them.
-use Rattle.std.proofs.Common.{◌≡◌, ◌≤◌, ◌<◌, ◌+◌, ◌-◌, ◌*◌, ◌/◌, ◌%◌, ◌||◌, ◌⊎◌, ℕ, Bool, true, false, List, [], ◌∷◌, refl, sym, ap, subst, ◌∙◌, inl, inr, eqb, arith}
+use Rattle.std.proofs.Common.{◌≡◌, ◌≤◌, ◌<◌, ◌+◌, ◌-◌, ◌*◌, ◌/◌, ◌%◌, ◌||◌, ℕ, Bool, true, false, [], ◌∷◌, refl, sym, ap, subst, ◌∙◌, inl, inr, eqb, arith}
 use Rattle.std.specs.List.{list_any}
 use Rattle.std.proofs.lemmas.Bool.{or_cases, eq-eqb, eqb-true, ne_eqb, both_ways}
-use Rattle.msf_blocks.specs.Blocks.{IsBlockSize, IsReserved, block_sizes, blocks_of_size, is_reserved}
+use Rattle.msf_blocks.specs.Blocks.{IsBlockSize, IsReserved, is_reserved}
 use Rattle.msf_image.specs.Packed.{given, given_before}
 
 -- what holds at each of the four sizes

@@ -1,16 +1,16 @@
 -- A file that is laid out block by block: each block is read as it was laid.
-use Rattle.std.proofs.Common.{◌≡◌, ◌≤◌, ◌<◌, ◌+◌, ◌-◌, ◌*◌, ◌/◌, ◌%◌, ◌++◌, ◌||◌, ℕ, zero, suc, Bool, true, false, cond, eqb, List, [], ◌∷◌, length, map, take, drop, replicate, get_or, Option, None, Some, refl, sym, ap, subst, ◌∙◌, arith}
-use Rattle.std.specs.List.{flat_map, range_with_len, sum_by}
+use Rattle.std.proofs.Common.{◌≡◌, ◌≤◌, ◌<◌, ◌+◌, ◌-◌, ◌*◌, ◌/◌, ◌%◌, ◌++◌, ℕ, zero, suc, Bool, true, false, cond, eqb, List, [], ◌∷◌, length, map, take, drop, replicate, get_or, Option, None, Some, refl, sym, ap, ◌∙◌, arith}
+use Rattle.std.specs.List.{flat_map, range_with_len}
 use Rattle.std.proofs.lemmas.Bool.{eq-eqb, ne_eqb}
-use Rattle.std.proofs.lemmas.List.{append_assoc, append-nil, drop-drop, drop_at, take_at, take-append-drop, take-append-le, length-append, length-drop, length-replicate, length-take, length-take-le}
+use Rattle.std.proofs.lemmas.List.{append_assoc, drop-drop, drop_at, take_at, take-append-drop, length-append, length-drop, length-replicate, length-take-le}
 use Rattle.std.proofs.lemmas.List.Sums.{sum_by-cons}
 use Rattle.std.proofs.Math.Nat.{add-mul, suc-mul}
 use Rattle.msf_blocks.specs.declared.superblock.Super.{Super}
 use Rattle.msf_blocks.specs.Blocks.{IsBlockSize, blocks_of_size}
-use Rattle.stream_directory.specs.Directory.{StreamBlocks, stream_at}
-use Rattle.msf_image.specs.Packed.{block_of, file_block, file_of, filled, given, given_before, given_from, stream_blocks, stream_bytes, stream_count, streams_from}
+use Rattle.stream_directory.specs.Directory.{stream_at}
+use Rattle.msf_image.specs.Packed.{block_of, file_block, file_of, filled, given, given_before, stream_blocks, stream_bytes, stream_count, streams_from}
 use Rattle.msf_image.specs.Reads.{block_bytes, bytes_of_blocks, content_of}
-use Rattle.msf_image.proofs.Giving.{IsGiven, at_each, given_before_given, given_is}
+use Rattle.msf_image.proofs.Giving.{at_each, given_before_given, given_is}
 
 pub length-block_of : (size : ℕ) (bytes : List ℕ) (k : ℕ) → length (block_of size bytes k) ≡ size
 unfolding block_of

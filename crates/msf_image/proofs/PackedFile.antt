@@ -1,33 +1,27 @@
 -- A packed file reads as its streams, with no free block.
-use Rattle.std.proofs.Common.{◌≡◌, ◌≤◌, ◌<◌, ◌+◌, ◌-◌, ◌*◌, ◌/◌, ◌%◌, ◌^◌, ◌++◌, ◌&&◌, ◌||◌, ℕ, zero, suc, Bool, true, false, cond, eqb, List, [], ◌∷◌, length, map, take, drop, replicate, get_or, find, All, Option, None, Some, Result, Ok, refl, sym, ap, subst, ◌∙◌, lit<, arith}
+use Rattle.std.proofs.Common.{◌≡◌, ◌≤◌, ◌<◌, ◌+◌, ◌-◌, ◌*◌, ◌/◌, ◌%◌, ◌^◌, ◌++◌, ℕ, zero, suc, Bool, false, cond, eqb, List, [], ◌∷◌, length, take, drop, replicate, get_or, find, All, Option, None, Some, Ok, refl, sym, ap, subst, ◌∙◌, arith}
 use Rattle.std.specs.Prelude.{filter}
-use Rattle.std.specs.Int.{bit_at}
-use Rattle.std.specs.List.{AllByRecursion, flat_map, range_with_len, sum_by}
-use Rattle.std.proofs.lemmas.List.{append_assoc, append-nil, drop_at, take_at, take-take, take-append-le, length-append, length-replicate, length-map}
-use Rattle.std.proofs.lemmas.List.FromFn.{get_or-map-range_with_len, length-map-range_with_len, length-range_with_len}
+use Rattle.std.specs.List.{AllByRecursion, flat_map, range_with_len}
+use Rattle.std.proofs.lemmas.List.{append_assoc, append-nil, drop_at, take_at, take-take, length-append}
+use Rattle.std.proofs.lemmas.List.FromFn.{get_or-map-range_with_len, length-map-range_with_len}
 use Rattle.std.proofs.lemmas.List.Sums.{sum_by-cons}
-use Rattle.std.proofs.lemmas.Nat.{mul-le}
 use Rattle.std.proofs.lemmas.Nat.Bits.{bit_at-zero}
-use Rattle.std.proofs.Math.Nat.{add-mul, suc-mul}
+use Rattle.std.proofs.Math.Nat.{add-mul}
 use Rattle.std.proofs.Math.Seq.{take-append-add}
 use Rattle.msf_blocks.specs.declared.superblock.Super.{Super}
-use Rattle.msf_blocks.specs.declared.superblock.SuperFault.{SuperFault}
 use Rattle.msf_blocks.specs.Bits.{has_bit}
 use Rattle.msf_blocks.specs.Blocks.{IsBlockSize, IsReserved, blocks_of_size, map_block, map_blocks}
-use Rattle.msf_blocks.specs.Superblock.{IsSuper, first_fault, numbers_of, superblock_tests, superblock_text}
+use Rattle.msf_blocks.specs.Superblock.{IsSuper, numbers_of, superblock_text}
 use Rattle.msf_blocks.proofs.Numbers.{little_number-little_bytes}
 use Rattle.msf_blocks.proofs.Sizes.{sized}
-use Rattle.msf_blocks.proofs.SuperblockTexts.{Found, passes}
-use Rattle.free_page_maps.specs.FreeBlocks.{FreeBlocks, below_where, free_in, is_free}
+use Rattle.msf_blocks.proofs.SuperblockTexts.{passes}
+use Rattle.free_page_maps.specs.FreeBlocks.{below_where, free_in, is_free}
 use Rattle.free_page_maps.specs.MapText.{map_text, number_where, map_bit}
 use Rattle.free_page_maps.proofs.MapTexts.{padded_text, text_and_again}
-use Rattle.stream_directory.specs.declared.fault.DirFault.{DirFault}
 use Rattle.stream_directory.specs.Directory.{StreamBlocks, directory_text, stream_at, word}
 use Rattle.stream_directory.specs.Reading.{first_bad, reading, unless, words_in}
 use Rattle.stream_directory.proofs.Streams.{Spells-directory_text, none_from_usable, reading_again}
-use Rattle.msf_image.specs.declared.image.Image.{Image}
-use Rattle.msf_image.specs.declared.fault.OpenFault.{OpenFault}
-use Rattle.msf_image.specs.Packed.{IsPackable, block_of, directory_blocks_of, directory_bytes, file_of, filled, given, given_from, none_of, packed, packed_content, packed_directory, packed_image, packed_listed, packed_map_addr, packed_super, stream_blocks, stream_bytes, stream_count, streams_from}
+use Rattle.msf_image.specs.Packed.{IsPackable, block_of, directory_blocks_of, directory_bytes, filled, given, given_from, none_of, packed, packed_content, packed_directory, packed_image, packed_listed, packed_map_addr, packed_super, stream_blocks, stream_bytes, stream_count}
 use Rattle.msf_image.specs.Reads.{active_map_blocks, block_bytes, bytes_of_blocks, content_of, free_blocks_in, listed_blocks, of_file, read_file, streams_in, superblock_in, tested, used_blocks, with_free, unless_free}
 use Rattle.msf_image.proofs.Directories.{done, map_inside}
 use Rattle.msf_image.proofs.Giving.{at_each}

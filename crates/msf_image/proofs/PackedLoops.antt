@@ -1,11 +1,10 @@
 -- A packed file as it is made: one stream, one block or one number more.
-use Rattle.std.proofs.Common.{◌≡◌, ◌≤◌, ◌<◌, ◌+◌, ◌-◌, ◌*◌, ◌/◌, ◌%◌, ◌^◌, ◌++◌, ◌⊎◌, inl, inr, ℕ, zero, suc, List, [], ◌∷◌, length, map, take, drop, replicate, get_or, min, Bool, true, false, ◌&&◌, not, All, Option, Some, None, Result, Ok, Err, refl, sym, ap, subst, ◌∙◌, eqb, lit≤, arith}
+use Rattle.std.proofs.Common.{◌≡◌, ◌≤◌, ◌<◌, ◌+◌, ◌-◌, ◌/◌, ◌%◌, ◌^◌, ◌++◌, ◌⊎◌, inl, inr, ℕ, zero, suc, List, [], ◌∷◌, length, take, drop, replicate, get_or, min, Bool, true, false, ◌&&◌, not, All, Option, Some, None, Result, Ok, Err, refl, sym, ap, subst, ◌∙◌, eqb, lit≤, arith}
 use Rattle.std.specs.Prelude.{IfOk}
 use Rattle.std.specs.Global.{Vec}
-use Rattle.std.specs.List.{flat_map, range_with_len, sum_by}
+use Rattle.std.specs.List.{flat_map, range_with_len}
 use Rattle.std.proofs.lemmas.Bool.{cases_lt}
-use Rattle.std.proofs.lemmas.List.{append-nil, length-replicate, take-append-le, take-replicate, take_more, take-append-drop, take_all, drop_all, length-drop, length-map, length-take}
-use Rattle.std.proofs.lemmas.List.FromFn.{map-range_with_len_more}
+use Rattle.std.proofs.lemmas.List.{append-nil, take-append-le, take-replicate, take_more, take-append-drop, take_all, drop_all, length-drop, length-map, length-take}
 use Rattle.std.proofs.lemmas.List.Sums.{sum_by-append, sum_by-cons}
 use Rattle.std.proofs.lemmas.Grind.{flat_map-append}
 use Rattle.std.proofs.lemmas.List.Elements.{All-head, All-tail, All-map}
@@ -16,10 +15,10 @@ use Rattle.msf_blocks.specs.declared.superblock.Super.{Super}
 use Rattle.msf_blocks.specs.Superblock.{superblock_text}
 use Rattle.msf_blocks.specs.Bits.{has_bit}
 use Rattle.msf_blocks.specs.Blocks.{IsBlockSize, blocks_of_size, is_reserved}
-use Rattle.free_page_maps.specs.FreeBlocks.{FreeBlocks, free_in}
+use Rattle.free_page_maps.specs.FreeBlocks.{free_in}
 use Rattle.free_page_maps.specs.MapText.{map_text}
 use Rattle.stream_directory.specs.Directory.{StreamBlocks, absent_size, directory_text, word}
-use Rattle.msf_image.specs.Packed.{IsPackable, IsSmall, block_of, directory_blocks_of, directory_bytes, file_block, file_of, filled, given, given_from, none_of, packed, packed_content, packed_directory, packed_listed, packed_map_addr, packed_super, present, stream_blocks, stream_bytes, stream_count, stream_from, streams_from}
+use Rattle.msf_image.specs.Packed.{IsPackable, IsSmall, directory_blocks_of, directory_bytes, file_block, file_of, filled, given, given_from, none_of, packed, packed_content, packed_directory, packed_listed, packed_map_addr, packed_super, present, stream_blocks, stream_bytes, stream_count, stream_from, streams_from}
 use Rattle.msf_image.proofs.Giving.{at_each}
 use Rattle.msf_image.proofs.PackedStreams.{length-packed_text, length-streams_from}
 use Rattle.msf_image.proofs.PackedFile.{front_and_more, none_below}

@@ -57,7 +57,10 @@ fn one_small_stream(rt: HostRuntime) -> Result<(), Fail> {
     assert_eq!(rt; file.get(512), Some(&0xc0));
     assert!(rt; file.iter().skip(513).take(511).all(|byte| *byte == 0xff));
     assert!(rt; stream_of(alloc, &file, 0)?.is_empty());
-    assert_eq!(rt; stream_of(alloc, &file, 1)?.as_slice(), [1, 2, 3].as_slice());
+    assert_eq!(rt;
+        stream_of(alloc, &file, 1)?.as_slice(),
+        [1, 2, 3].as_slice()
+    );
     assert_eq!(rt; blocks_of(alloc, &file, 1)?.as_slice(), [3].as_slice());
     Ok(())
 }
@@ -123,7 +126,10 @@ fn second_map_pair(rt: HostRuntime) -> Result<(), Fail> {
     let content = stream_of(alloc, &file, 1)?;
     assert_eq!(rt; content.len(), 4200 * 512);
     assert!(rt; content.iter().all(|byte| *byte == 1));
-    assert_eq!(rt; stream_of(alloc, &file, 2)?.as_slice(), [2, 2, 2, 2, 2].as_slice());
+    assert_eq!(rt;
+        stream_of(alloc, &file, 2)?.as_slice(),
+        [2, 2, 2, 2, 2].as_slice()
+    );
     Ok(())
 }
 

@@ -1,5 +1,5 @@
 use Rattle.msf_image.specs.Packed.{given_before}
-use Rattle.msf_image.proofs.Giving.{IsGiven, given_is, none_left, rises, unreserved_given}
+use Rattle.msf_image.proofs.Giving.{given_is, none_left, rises, unreserved_given}
 use Rattle.msf_image.proofs.laws.given_in_order.Goals as goal
 
 pub returns-clause-least : goal.returns-clause-least

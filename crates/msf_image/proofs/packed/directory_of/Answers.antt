@@ -1,6 +1,6 @@
 use Rattle.std.proofs.Common.{◌+◌, ◌++◌, [], ◌∷◌, length, take, Some, sym, ap, ◌∙◌, arith}
 use Rattle.msf_blocks.specs.Blocks.{blocks_of_size}
-use Rattle.msf_image.specs.Packed.{given_from, packed_directory, present, stream_blocks, stream_from, streams_from}
+use Rattle.msf_image.specs.Packed.{given_from, present, stream_blocks, stream_from, streams_from}
 use Rattle.msf_image.proofs.PackedLoops.{all_streams, blocks-more, blocks-take, few_streams, has_room, length-present, one_stream, size_at, sizes_of, streams-more}
 use Rattle.msf_image.proofs.packed.directory_of.Goals as goal
 

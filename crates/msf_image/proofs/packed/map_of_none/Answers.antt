@@ -1,4 +1,4 @@
-use Rattle.std.proofs.Common.{◌≡◌, ap, subst, sym, ◌∙◌, ◌+◌, ◌/◌}
+use Rattle.std.proofs.Common.{◌≡◌, ap, subst, ◌∙◌, ◌+◌, ◌/◌}
 use Rattle.std.specs.Prelude.{IfOk}
 use Rattle.free_page_maps.specs.FreeBlocks.{free_in}
 use Rattle.free_page_maps.specs.MapText.{map_text}
