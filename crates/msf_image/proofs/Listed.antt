@@ -1,10 +1,10 @@
 -- The blocks that the block map lists, and faults that are told.
-use Rattle.std.proofs.Common.{◌≡◌, ◌≤◌, ◌<◌, ◌+◌, ◌*◌, ◌/◌, ◌%◌, ◌++◌, ◌⊎◌, inl, inr, ◌-◌, ℕ, zero, suc, List, [], ◌∷◌, length, take, All, Option, Some, None, Result, Ok, Err, refl, sym, ap, subst, ◌∙◌, IsErrAnd, arith}
+use Rattle.std.proofs.Common.{◌≡◌, ◌≤◌, ◌<◌, ◌+◌, ◌*◌, ◌/◌, ◌%◌, ◌++◌, ◌-◌, ℕ, zero, suc, List, [], ◌∷◌, length, take, All, Option, None, Result, Ok, Err, sym, ap, subst, ◌∙◌, IsErrAnd, arith}
 use Rattle.std.proofs.lemmas.List.{append-nil, length-take-le}
 use Rattle.std.proofs.lemmas.Nat.{mul-le}
 use Rattle.std.proofs.Math.Nat.{div-lt_iff_lt-mul, mul-div_left, mul_assoc, mul_comm, suc-mul}
 use Rattle.msf_blocks.specs.declared.superblock.Super.{Super}
-use Rattle.msf_blocks.specs.Blocks.{IsBlockSize, blocks_of_size}
+use Rattle.msf_blocks.specs.Blocks.{blocks_of_size}
 use Rattle.msf_blocks.specs.Superblock.{IsSuper}
 use Rattle.msf_blocks.proofs.Sizes.{sized}
 use Rattle.stream_directory.specs.declared.fault.DirFault.{DirFault}

@@ -1,9 +1,8 @@
 -- The file as it is read: what is told at each stage is what the file tells.
-use Rattle.std.proofs.Common.{◌≡◌, ℕ, List, Option, Result, Ok, Err, refl, sym, ap, subst, ◌∙◌, IsErrAnd}
+use Rattle.std.proofs.Common.{◌≡◌, ℕ, List, Option, Result, Ok, Err, sym, ap, ◌∙◌, IsErrAnd}
 use Rattle.msf_blocks.specs.declared.superblock.Super.{Super}
 use Rattle.free_page_maps.specs.FreeBlocks.{FreeBlocks}
 use Rattle.stream_directory.specs.Directory.{StreamBlocks}
-use Rattle.msf_image.specs.declared.image.Image.{Image}
 use Rattle.msf_image.specs.declared.fault.OpenFault.{OpenFault}
 use Rattle.msf_image.specs.declared.fault.OpenFault.TheVariants.{Damage, DiskFault, OutOfMemory}
 use Rattle.msf_image.specs.Reads.{Tells, ◌>>=◌, free_blocks_in, listed_blocks, read_file, streams_in, superblock_in, used_blocks, with_free}

@@ -1,5 +1,5 @@
 -- The superblock at the front of a file.
-use Rattle.std.proofs.Common.{◌≡◌, ◌≤◌, ◌<◌, ◌⊎◌, inl, inr, ℕ, ◌&&◌, eqb, leb, false, List, ◌∷◌, length, take, Option, Some, None, Result, Ok, Err, refl, sym, ap, subst, ◌∙◌, IsErrAnd, arith}
+use Rattle.std.proofs.Common.{◌≡◌, ◌≤◌, ◌<◌, inl, inr, ℕ, ◌&&◌, eqb, leb, false, List, ◌∷◌, length, take, Result, Ok, Err, sym, ap, ◌∙◌, IsErrAnd, arith}
 use Rattle.std.proofs.lemmas.Bool.{cases_lt}
 use Rattle.std.proofs.lemmas.Bool.Decides.{leb_tells}
 use Rattle.std.specs.List.{starts_with}

@@ -1,4 +1,4 @@
-use Rattle.std.proofs.Common.{rules, arith}
+use Rattle.std.proofs.Common.{rules}
 use Rattle.msf_image.proofs.Moments.{reads_on}
 use Rattle.msf_image.proofs.Joining.{blocks_more}
 use Rattle.msf_image.proofs.blocks.read_blocks.Goals as goal

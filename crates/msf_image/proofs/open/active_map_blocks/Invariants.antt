@@ -1,4 +1,4 @@
-use Rattle.std.proofs.Common.{◌≡◌, ◌≤◌, map}
+use Rattle.std.proofs.Common.{◌≡◌, map}
 use Rattle.std.specs.List.{range_with_len}
 use Rattle.msf_blocks.specs.Blocks.{map_block}
 use Rattle.msf_image.proofs.open.active_map_blocks.Given as goal

@@ -1,4 +1,4 @@
-use Rattle.std.proofs.Common.{◌≡◌, ℕ, Vec, Global, ap, subst, sym, ◌∙◌}
+use Rattle.std.proofs.Common.{ℕ, Vec, Global, ap, subst, sym, ◌∙◌}
 use Rattle.msf_image.specs.Reads.{Tells, used_blocks, with_free}
 use Rattle.msf_image.proofs.Directories.{done}
 use Rattle.msf_image.proofs.Moments.{reads_on}

@@ -1,5 +1,3 @@
-use Rattle.std.proofs.Common.{sym, ap, ◌∙◌, subst}
-use Rattle.msf_blocks.specs.Superblock.{Answers}
 use Rattle.msf_image.specs.Faults.{fault_of_superblock}
 use Rattle.msf_image.proofs.Superblocks.{superblock_err, superblock_ok, told_err}
 use Rattle.msf_image.proofs.open.read_head.Goals as goal

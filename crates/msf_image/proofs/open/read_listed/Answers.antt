@@ -1,4 +1,4 @@
-use Rattle.std.proofs.Common.{◌<◌, All, Ok, ap, subst, ◌∙◌}
+use Rattle.std.proofs.Common.{◌<◌, All, ap, subst, ◌∙◌}
 use Rattle.msf_image.proofs.Directories.{done}
 use Rattle.msf_image.proofs.Listed.{listed_err, listed_inside, listed_ok}
 use Rattle.msf_image.proofs.open.read_listed.Goals as goal

@@ -1,4 +1,4 @@
-use Rattle.std.proofs.Common.{◌<◌, ◌≡◌, All, ap, sym, subst, ◌∙◌, length, get_or, arith}
+use Rattle.std.proofs.Common.{◌<◌, All, ap, sym, subst, ◌∙◌, length, get_or, arith}
 use Rattle.std.proofs.lemmas.Bool.{ltb-true}
 use Rattle.stream_directory.specs.Directory.{blocks_in}
 use Rattle.msf_image.proofs.Joining.{block_inside, inside_piece}
