@@ -1,5 +1,5 @@
 -- What is printed where memory is wanted.
-use Rattle.std.proofs.Common.{ℕ, Bool, List, [], Err, refl, sym, inl}
+use Rattle.std.proofs.Common.{ℕ, Bool, List, Err, refl, sym, inl}
 use Rattle.std.proofs.lemmas.List.{append-nil}
 use Rattle.msf_image.specs.declared.fault.OpenFault.TheVariants.{OutOfMemory}
 use Rattle.mspdbsrv.specs.declared.status.Status.TheVariants as status
