@@ -1,9 +1,9 @@
 -- What a file reads as: its superblock, its directory and its free blocks; or its first damage.
-use Rattle.std.specs.Prelude.{◌≡◌, ℕ, List, [], ◌∷◌, ◌++◌, length, map, take, drop, find, Option, Some, None, Result, Ok, Err}
+use Rattle.std.specs.Prelude.{◌≡◌, ℕ, List, [], ◌∷◌, ◌++◌, length, All, map, take, drop, find, Option, Some, None, Result, Ok, Err}
 use Rattle.std.specs.List.{flat_map, range_with_len}
 use Rattle.msf_blocks.specs.declared.superblock.Super.{Super}
 use Rattle.msf_blocks.specs.declared.superblock.SuperFault.{SuperFault}
-use Rattle.msf_blocks.specs.Blocks.{blocks_of_size, block_offset, map_block, map_blocks}
+use Rattle.msf_blocks.specs.Blocks.{IsReserved, blocks_of_size, block_offset, map_block, map_blocks}
 use Rattle.msf_blocks.specs.Superblock.{IsSuper, first_fault, numbers_of, superblock_tests}
 use Rattle.free_page_maps.specs.FreeBlocks.{FreeBlocks, free_in, is_free}
 use Rattle.stream_directory.specs.declared.fault.DirFault.{DirFault}
@@ -90,11 +90,13 @@ Tells view (Err (Damage kind place)) told = told ≡ Err (Damage kind place)
 Tells view (Err DiskFault) told = Unit {0}
 Tells view (Err OutOfMemory) told = Unit {0}
 
--- a superblock, and a directory whose streams have usable blocks
+-- a superblock, a directory whose streams have usable blocks, and free blocks of the file that are not reserved
 pub record IsWhole (image : Image) : Type 0 where
   pub head : IsSuper image.head
   pub listed : List ℕ
   pub directory : IsDirectory image.head listed image.directory
+  pub blocks : image.free.blocks ≡ image.head.blocks
+  pub unreserved : All (λ b. ¬ IsReserved image.head.block b) image.free.free
 
 -- The content of a stream: its blocks joined, and cut to its size. An absent stream, and one that is not there, has none.
 abbrev pub content_of : List ℕ → Super → Option StreamBlocks → List ℕ

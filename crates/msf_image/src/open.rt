@@ -4,7 +4,7 @@ ghost use Rattle.std.specs.Prelude.{◌≡◌, ◌≤◌, ◌<◌, ◌+◌, ◌*
 ghost use Rattle.std.specs.List.{flat_map};
 ghost use Rattle.srv_edge.specs.Count.{Rose};
 ghost use Rattle.srv_edge.specs.Disk.{LeavesOnly};
-ghost use Rattle.msf_blocks.specs.Blocks.{blocks_of_size};
+ghost use Rattle.msf_blocks.specs.Blocks.{IsReserved, blocks_of_size};
 ghost use Rattle.msf_blocks.specs.Superblock.{IsSuper};
 ghost use Rattle.free_page_maps.specs.FreeBlocks.{is_free};
 ghost use Rattle.stream_directory.specs.Directory.{IsDirectory, blocks_in};
@@ -23,10 +23,10 @@ use stream_directory::{Directory, Stream, judge, read_directory_behind, words_of
 /// Reads a file as its container, which may have at most so many blocks. Nothing is written. It takes memory for one
 /// block, the directory and the map alone, whatever the file's length says.
 pub fn open_image<D: Device>(alloc: Global, device: &mut D, limit: u32) -> Result<Image, OpenFault>
-    requires limit { limit ≤ 2 ^ 20 }
     // What is read is what the file reads as, and the damage is its first.
     ensures reads { IsTrue D.tells → Tells (λ image. image) result (read_file (D.seen device.old) limit) }
     ensures whole { IfOk result IsWhole }
+    ensures limited { IfOk result (λ image. image.head.blocks ≤ limit) }
     ensures inside { IsTrue D.tells → IfOk result (λ image. image.head.blocks * image.head.block ≤ length (D.seen device.old)) }
     ensures disk_fault { IsErrOf result OpenFault.DiskFault → Rose (D.fault_count device.old) (D.fault_count device.new) }
     ensures seen { D.seen device.new ≡ D.seen device.old }
@@ -154,8 +154,9 @@ fn read_free_blocks<D: Device>(
     head: &Super,
 ) -> Result<FreeMap, OpenFault>
     requires passes { IsSuper head.now }
-    requires limited { head.now.blocks ≤ 2 ^ 20 }
     requires inside { IsTrue D.tells → head.now.blocks * head.now.block ≤ length (D.seen device.old) }
+    ensures blocks { IfOk result (λ m. m.blocks ≡ head.now.blocks) }
+    ensures unreserved { IfOk result (λ m. All (λ b. ¬ IsReserved head.now.block b) m.free) }
     ensures reads { IsTrue D.tells → Tells (λ free. free) result (Ok (free_blocks_in (D.seen device.old) head.now)) }
     ensures disk_fault { IsErrOf result OpenFault.DiskFault → Rose (D.fault_count device.old) (D.fault_count device.new) }
     ensures seen { D.seen device.new ≡ D.seen device.old }
@@ -171,8 +172,7 @@ fn read_free_blocks<D: Device>(
 // The blocks of the active map that carry meaning.
 fn active_map_blocks(alloc: Global, head: &Super) -> Result<Vec<u32>, AllocError>
     requires passes { IsSuper head.now }
-    requires limited { head.now.blocks ≤ 2 ^ 20 }
-    ensures few { IfOk result (λ blocks. length blocks.items ≤ 2 ^ 20) }
+    ensures few { IfOk result (λ blocks. length blocks.items ≤ 2 ^ 32) }
     ensures inside { IfOk result (λ blocks. All (λ b. b < head.now.blocks) blocks.items) }
     ensures enough { IfOk result (λ blocks. head.now.blocks ≤ 8 * (length blocks.items * head.now.block)) }
     ensures blocks { IfOk result (λ blocks. blocks.items ≡ active_map_blocks head.now) }

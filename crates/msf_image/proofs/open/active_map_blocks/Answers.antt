@@ -17,7 +17,7 @@ loop-j-preserved c =
 pub returns-clause-few : goal.returns-clause-few
 returns-clause-few c =
     let at_end : c.loop-j.j ≡ map_blocks c.args.head.now.block c.args.head.now.blocks = omega (arith, c.loop-j.auto.j-end, c.loop-j-test.false, c.map_blocks-count.ensures) in
-    let most = few_map_blocks c.args.head.now.block c.args.head.now.blocks 1048576 (sized c.args.head.now.block c.requires.passes.block).least c.requires.limited in
+    let most = few_map_blocks c.args.head.now.block c.args.head.now.blocks 4294967296 (sized c.args.head.now.block c.requires.passes.block).least (omega (arith, c.requires.passes.blocks_fit)) in
     omega (arith, most, map_count c.args.head.now c.loop-j.j _ at_end c.loop-j.invariant)
 
 pub returns-clause-inside : goal.returns-clause-inside
