@@ -6,7 +6,6 @@ use crate::blocks::ReadFault;
 use msf_blocks::SuperFault;
 use srv_edge::Failed;
 use std::alloc::{AllocError, AllocFailed};
-use std::fmt;
 use stream_directory::DirFault;
 use thiserror::Error;
 
@@ -28,7 +27,7 @@ pub enum DamageKind {
 }
 
 impl DamageKind {
-    /// The word for it in a line of `check`.
+    /// The word for it in a line.
     pub fn name(self) -> &'static str
         ensures { result.now ≡ kind_text self }
     {
@@ -49,18 +48,12 @@ impl DamageKind {
     }
 }
 
-impl fmt::Display for DamageKind {
-    fn fmt<W: fmt::Write>(&self, f: &mut fmt::Formatter<W>) -> fmt::Result {
-        f.write_str(self.name())
-    }
-}
-
 /// Why a file was not opened, or not read.
 #[derive(Clone, Copy, Debug, PartialEq, Eq, Error)]
 pub enum OpenFault {
     /// The first test that the file fails, and where: an offset in the superblock or the directory, or a
     /// block's number.
-    #[error("damage {kind} {place}")]
+    #[error("damage {} {place}", .kind.name())]
     Damage { kind: DamageKind, place: u64 },
     /// The device failed.
     #[error("disk fault")]

@@ -55,7 +55,7 @@ impl fmt::Display for Status {
             Status::ReadFault => f.write_str("read fault"),
             Status::WriteFault => f.write_str("write fault"),
             Status::DiskFault => f.write_str("disk fault"),
-            Status::Damage { kind, place } => write!(f, "damage {kind} {place}"),
+            Status::Damage { kind, place } => write!(f, "damage {} {place}", kind.name()),
             Status::TooLong => f.write_str("too long"),
             Status::OutOfMemory => f.write_str("out of memory"),
             Status::CutShort => f.write_str("cut short"),
