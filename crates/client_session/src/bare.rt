@@ -7,14 +7,11 @@ use index_fields::first_missing;
 use leaf_grammar::{Space, check};
 use names_table::{NameFault, NamesTable};
 use record_table::{AddFault, RecordTable};
-use request_frames::{Desk, Request, write_frame};
+use request_frames::{Desk, Request, VERSION, write_frame};
 use srv_edge::{Limits, Piece, Refusal, half};
 use std::alloc::{AllocError, Global};
 use std::hash::RandomState;
 use std::marker::Model;
-
-/// The version of the protocol that is spoken.
-const VERSION: u16 = 1;
 
 /// A desk over tables of its own, which no file holds.
 #[derive(Drop)]

@@ -1,8 +1,8 @@
 -- What a run of the program does.
-use Rattle.std.specs.Prelude.{◌≡◌, ◌^◌, ⊤, ℕ, List, []}
+use Rattle.std.specs.Prelude.{◌≡◌, ◌^◌, ⊤, ℕ, Bool, IsTrue, List, []}
 use Rattle.srv_edge.specs.declared.failed.SessionEnd.{SessionEnd}
 use Rattle.srv_edge.specs.declared.failed.SessionEnd.TheVariants as end
-use Rattle.request_frames.specs.Session.{IsSession}
+use Rattle.request_frames.specs.Session.{IsInputEnd, IsSession}
 use Rattle.client_session.specs.Tables.{Tables, Answers}
 use Rattle.mspdbsrv.specs.declared.status.Status.{Status}
 use Rattle.mspdbsrv.specs.declared.status.Status.TheVariants as status
@@ -38,10 +38,11 @@ empty_tables = record {
   names = record { max_bytes = 268435456; version = 1; names = [] };
 }
 
--- A session over empty tables, of at most 2 ^ 32 bytes: these bytes were read and these sent, and this
--- was its status.
-pub record IsRun (read sent : List ℕ) (status : Status) : Type 0 where
+-- A session over empty tables, of at most 2 ^ 32 bytes: these bytes were read and these sent, and this was its
+-- status. Where the input ended, nothing is left in a source that tells it.
+pub record IsRun (tells : Bool) (left read sent : List ℕ) (status : Status) : Type 0 where
   pub tables : Tables
   pub end : SessionEnd
   pub session : IsSession Answers (2 ^ 32) empty_tables tables read sent end
   pub status_is : status ≡ status_of end
+  pub none_left : IsInputEnd end → IsTrue tells → left ≡ []

@@ -21,6 +21,7 @@ pub(crate) fn check<K: Sink, D: Device>(alloc: Global, sink: &mut K, device: &mu
     ensures seen { D.seen device.new ≡ D.seen device.old }
     ensures any_moment { LeavesOnly D.moment D.left_since device.old device.new (D.may_leave device.old) }
     ensures device_faults { D.fault_count device.old ≤ D.fault_count device.new }
+    ensures loans { D.loans device.new ≡ D.loans device.old }
 {
     let read = open_image(alloc, device, Limits::STANDARD.blocks);
     match line_of(alloc, &read) {

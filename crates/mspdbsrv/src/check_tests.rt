@@ -1,10 +1,11 @@
 //! `check` over files in memory: the line of a file that reads, each damage once, and each call failing.
 
+use crate::device_of;
 use crate::run::run;
 use crate::status::Status;
 use crate::word::Word;
-use msf_image::DamageKind;
-use srv_edge::{FileDevice, MemDevice, MemSink, MemSource};
+use msf_image::{DamageKind, is_packable, new_file};
+use srv_edge::{FileDevice, MemDevice, MemSink, MemSource, Text};
 use std::alloc::Global;
 use std::fs::File;
 use std::hash::RandomState;
@@ -123,6 +124,18 @@ fn each_damage(rt: HostRuntime) -> Result<(), Fail> {
     Ok(())
 }
 
+// The small file is the packed file of its streams.
+#[test]
+fn packed_file(rt: HostRuntime) -> Result<(), Fail> {
+    let mut streams = Vec::new(rt.alloc());
+    streams.push(Text::new(Vec::new(rt.alloc())))?;
+    streams.push(Text::new(Vec::from_slice(rt.alloc(), &[1, 2, 3])?))?;
+    assert!(rt; is_packable(512, &streams));
+    let file = new_file(rt.alloc(), 512, &streams)?;
+    assert_eq!(rt; file, small_file(rt.alloc())?);
+    Ok(())
+}
+
 // The file cut to so many bytes, and one with bytes behind its blocks.
 #[test]
 fn lengths(rt: HostRuntime) -> Result<(), Fail> {
@@ -219,5 +232,36 @@ fn codes_and_words(rt: HostRuntime) -> Result<(), Fail> {
         assert_eq!(rt; status.code(), code);
         assert_eq!(rt; format!(in rt.alloc(); "{status}")?.as_str(), word);
     }
+    Ok(())
+}
+
+// What `check` prints of the file at a path, and its status.
+fn checked_at(rt: &HostRuntime, path: &str) -> Result<(String, Status), Fail> {
+    let alloc = rt.alloc();
+    let mut source = MemSource::new(Vec::new(alloc), 1, Vec::new(alloc));
+    let mut sink = MemSink::new(alloc, Vec::new(alloc));
+    let words = words_of(alloc, "check", path)?;
+    let Ok(device) = device_of(rt, &words) else {
+        return Err(Fail::new("no memory"));
+    };
+    let keys = RandomState::new(rt)?;
+    let (status, _) = run(alloc, keys, &words, &mut source, &mut sink, device);
+    Ok((String::from_utf8_lossy(alloc, sink.taken())?, status))
+}
+
+// A file of the system, a folder, and a path that is not there.
+#[test]
+fn files_of_the_system(rt: HostRuntime) -> Result<(), Fail> {
+    let folder = std::env::temp_dir(&rt)?;
+    let id = std::process::id(rt.process());
+    let path = format!(in rt.alloc(); "{}/mspdbsrv-{id}.pdb", folder.as_str())?;
+    let (text, status) = checked_at(&rt, path.as_str())?;
+    assert_eq!(rt; (text.as_str(), status), ("", Status::DiskFault));
+    std::fs::write(&rt, path.as_str(), &small_file(rt.alloc())?)?;
+    let (text, status) = checked_at(&rt, path.as_str())?;
+    std::fs::remove_file(&rt, path.as_str())?;
+    assert_eq!(rt; (text.as_str(), status), (WHOLE, Status::Ok));
+    let (text, status) = checked_at(&rt, folder.as_str())?;
+    assert_eq!(rt; (text.as_str(), status), ("", Status::DiskFault));
     Ok(())
 }

@@ -11,7 +11,7 @@ mod status;
 mod tests;
 mod word;
 
-use crate::plan::{Plan, plan_of};
+use crate::plan::{Plan, Usage, plan_of};
 use crate::run::run;
 use crate::status::Status;
 use crate::word::Word;
@@ -39,15 +39,21 @@ fn words_of<R: Env + Alloc<A = Global>>(rt: &R) -> Result<Vec<Word>, Status> {
     Ok(words)
 }
 
-// The file that the words name, opened for reading; or one that fails at every call, where they name none, or one that is
-// a folder or cannot be opened.
-fn device_of(rt: &HostRuntime, words: &[Word]) -> FileDevice<File> {
-    let Ok(Plan::Check { path }) = plan_of(rt.alloc(), words) else {
-        return FileDevice::absent();
-    };
-    match File::open(rt, path.as_str()) {
-        Ok(file) if !is_folder(&file) => FileDevice::new(file),
-        _ => FileDevice::absent(),
+// The file that the words name, or one that fails at every call, where they name none.
+fn device_of(rt: &HostRuntime, words: &[Word]) -> Result<FileDevice<File>, Status> {
+    match plan_of(rt.alloc(), words) {
+        Ok(Plan::Check { path }) => open(rt, path.as_str()),
+        Ok(Plan::Session) | Err(Usage::NotAForm) => Ok(FileDevice::absent()),
+        Err(Usage::OutOfMemory) => Err(Status::OutOfMemory),
+    }
+}
+
+// A file opened for reading; one that fails at every call, where it is a folder or cannot be opened.
+fn open(rt: &HostRuntime, path: &str) -> Result<FileDevice<File>, Status> {
+    match File::open(rt, path) {
+        Ok(file) if !is_folder(&file) => Ok(FileDevice::new(file)),
+        Err(e) if e.kind() == io::ErrorKind::OutOfMemory => Err(Status::OutOfMemory),
+        _ => Ok(FileDevice::absent()),
     }
 }
 
@@ -59,20 +65,17 @@ fn is_folder(file: &File) -> bool {
 }
 
 // Does what the words ask for. Where the system gives no random bytes, it ends as out of memory, before it reads.
-fn run_words(rt: &HostRuntime, words: &[Word]) -> Status {
-    let Ok(keys) = RandomState::new(rt) else {
-        return Status::OutOfMemory;
-    };
+fn run_words(rt: &HostRuntime, words: &[Word]) -> Result<Status, Status> {
+    let keys = RandomState::new(rt).map_err(|_| Status::OutOfMemory)?;
+    let device = device_of(rt, words)?;
     let mut source = StdIn::new(rt.stdin());
     let mut sink = StdOut::new(rt.stdout());
-    let device = device_of(rt, words);
-    run(rt.alloc(), keys, words, &mut source, &mut sink, device).0
+    Ok(run(rt.alloc(), keys, words, &mut source, &mut sink, device).0)
 }
 
 fn main(rt: HostRuntime) -> ExitCode {
-    let status = match words_of(&rt) {
-        Ok(words) => run_words(&rt, &words),
-        Err(status) => status,
+    let status = match words_of(&rt).and_then(|words| run_words(&rt, &words)) {
+        Ok(status) | Err(status) => status,
     };
     if status != Status::Ok {
         let _ = eprintln!(rt; "mspdbsrv: {status}");

@@ -35,7 +35,7 @@ pub fn run<S: Source, K: Sink, D: Device>(
     ensures usage { (result.0 ≡ Status.Usage) ↔ (form_of words.now ≡ None) }
 
     // In `session` these bytes came and these went, and they are a session over empty tables.
-    ensures session { form_of words.now ≡ Some Plan.Session → IsEarly result.0 ⊎ ((read : List ℕ) × (sent : List ℕ) × IsRun read sent result.0
+    ensures session { form_of words.now ≡ Some Plan.Session → IsEarly result.0 ⊎ ((read : List ℕ) × (sent : List ℕ) × IsRun S.tells (S.left source.new) read sent result.0
         × Came S.tells read (S.given source.old) (S.left source.old) (S.given source.new) (S.left source.new)
         × Went K.tells sent (K.taken sink.old) (K.taken sink.new)) }
 
@@ -51,6 +51,7 @@ pub fn run<S: Source, K: Sink, D: Device>(
     ensures source_faults { S.faults source.old ≤ S.faults source.new }
     ensures sink_faults { K.faults sink.old ≤ K.faults sink.new }
     ensures device_faults { D.fault_count device ≤ D.fault_count result.1 }
+    ensures loans { D.loans result.1 ≡ D.loans device }
 
     // The file is not changed, and a crash at any moment leaves what it might have left at the start.
     ensures seen { D.seen result.1 ≡ D.seen device }
@@ -78,7 +79,7 @@ fn session<S: Source, K: Sink>(
     source: &mut S,
     sink: &mut K,
 ) -> Status
-    ensures session { IsEarly result ⊎ ((read : List ℕ) × (sent : List ℕ) × IsRun read sent result
+    ensures session { IsEarly result ⊎ ((read : List ℕ) × (sent : List ℕ) × IsRun S.tells (S.left source.new) read sent result
         × Came S.tells read (S.given source.old) (S.left source.old) (S.given source.new) (S.left source.new)
         × Went K.tells sent (K.taken sink.old) (K.taken sink.new)) }
     ensures nothing_read { IsEarly result → IsTrue S.tells → (S.given source.new ≡ S.given source.old) × (S.left source.new ≡ S.left source.old) }
@@ -115,7 +116,7 @@ fn serve<S: Source, K: Sink>(
     room: &mut Room,
 ) -> Status
     requires { desk.old ≡ empty_tables }
-    ensures session { (read : List ℕ) × (sent : List ℕ) × IsRun read sent result
+    ensures session { (read : List ℕ) × (sent : List ℕ) × IsRun S.tells (S.left source.new) read sent result
         × Came S.tells read (S.given source.old) (S.left source.old) (S.given source.new) (S.left source.new)
         × Went K.tells sent (K.taken sink.old) (K.taken sink.new) }
     ensures read_fault { result ≡ Status.ReadFault → Rose (S.faults source.old) (S.faults source.new) }
@@ -134,7 +135,7 @@ fn serve_both<'a, S: Source, K: Sink>(
     room: &mut Room,
 ) -> Status
     requires { desk.old ≡ empty_tables }
-    ensures session { (read : List ℕ) × (sent : List ℕ) × IsRun read sent result
+    ensures session { (read : List ℕ) × (sent : List ℕ) × IsRun S.tells (S.left link.new.source.now) read sent result
         × Came S.tells read (S.given link.old.source.now) (S.left link.old.source.now) (S.given link.new.source.now) (S.left link.new.source.now)
         × Went K.tells sent (K.taken link.old.sink.now) (K.taken link.new.sink.now) }
     ensures read_fault { result ≡ Status.ReadFault → Rose (S.faults link.old.source.now) (S.faults link.new.source.now) }

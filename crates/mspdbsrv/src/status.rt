@@ -20,7 +20,7 @@ pub enum Status {
     DiskFault,
     /// The file fails a test: which, and where.
     Damage { kind: DamageKind, place: u64 },
-    /// The input has more than 2^32 bytes.
+    /// 2^32 bytes were read, and no other end came.
     TooLong,
     OutOfMemory,
     /// The input ended within a frame.

@@ -21,6 +21,10 @@ const FIRST: &str = "050000008200100000";
 // Two of them, and their two replies.
 const TWO: &str = "0d000000020a000110740000000100f2f1 0d000000020a000110740000000100f2f1";
 
+const BYE_ADD: &str = "010000000a 0d000000020a000110740000000100f2f1";
+
+const ADD_COUNTS: &str = "0d000000020a000110740000000100f2f1 0100000009";
+
 const TWICE: &str = "050000008200100000050000008200100000";
 
 // A device that fails at every call, which a session never asks.
@@ -134,6 +138,15 @@ fn records_by_their_bytes(rt: HostRuntime) -> Result<(), Fail> {
         (
             "0d000000020a000110740000000100f2f1 0d000000020a000110001000000100f2f1",
             "050000008200100000 050000008201100000",
+            Status::Ok,
+        ),
+        // a field list, a structure that has it, an item that names the structure, a name, the counts, and Bye
+        (
+            "11000000020e0003120d1503007400000000007800
+             21000000021e0005150100000200100000000000000000000004005300 2e3f41555340 4000
+             11000000030e00061601100000 0000000007000000 020000000461 0100000009 010000000a",
+            "050000008200100000 050000008201100000 050000008300100000 050000008401000000
+             0d00000089020000000100000001000000 010000008a",
             Status::Ok,
         ),
         // no record at all
@@ -312,7 +325,31 @@ fn faults_at_each_call(rt: HostRuntime) -> Result<(), Fail> {
     Ok(())
 }
 
-// Other words than the one form read nothing.
+// The same in pieces of a byte, where the source is asked 35 times.
+#[test]
+fn faults_between_bytes(rt: HostRuntime) -> Result<(), Fail> {
+    let keys = RandomState::new(&rt)?;
+    let alloc = rt.alloc();
+    for (call, replies) in [(0, ""), (16, ""), (17, FIRST), (33, FIRST), (34, TWICE)] {
+        let (text, status) = talk(alloc, keys, TWO, 0, &[call], &[])?;
+        assert_eq!(rt;
+            (text.as_str(), status),
+            (replies, Status::ReadFault),
+            "at {call}"
+        );
+    }
+    for (call, replies) in [(0, ""), (1, FIRST)] {
+        let (text, status) = talk(alloc, keys, TWO, 0, &[], &[call])?;
+        assert_eq!(rt;
+            (text.as_str(), status),
+            (replies, Status::WriteFault),
+            "at {call}"
+        );
+    }
+    Ok(())
+}
+
+// Words that are no form read nothing.
 #[test]
 fn other_words_are_no_form(rt: HostRuntime) -> Result<(), Fail> {
     let keys = RandomState::new(&rt)?;
@@ -332,19 +369,50 @@ fn other_words_are_no_form(rt: HostRuntime) -> Result<(), Fail> {
     Ok(())
 }
 
-// A limit of the length of one frame ends behind its reply.
-#[test]
-fn limit_of_one_frame(rt: HostRuntime) -> Result<(), Fail> {
-    let keys = RandomState::new(&rt)?;
+// How a link is served over empty tables up to a limit, and then to its end over the same tables; and all replies. The
+// source gives a byte and at most so many more in each call, and the sink fails at these calls.
+fn served_twice(
+    alloc: Global,
+    keys: RandomState,
+    input: &str,
+    more: u8,
+    limit: u64,
+    sink_fails: &[u32],
+) -> Result<(SessionEnd, SessionEnd, String), Fail> {
     let mut link = MemLink {
-        source: source_of(rt.alloc(), TWO, 255, &[])?,
-        sink: MemSink::new(rt.alloc(), Vec::new(rt.alloc())),
+        source: source_of(alloc, input, usize::from(more) + 1, &[])?,
+        sink: MemSink::new(alloc, Vec::from_slice(alloc, sink_fails)?),
     };
-    let mut desk = Bare::new(rt.alloc(), RandomState::new(&rt)?, Limits::STANDARD)?;
-    let mut room = Room::new(rt.alloc())?;
-    let end = serve_link(&(), &mut link, &mut desk, 17, &mut room);
-    assert_eq!(rt; end, SessionEnd::TooLong);
-    assert_eq!(rt; hex::encode(rt.alloc(), link.sink.taken())?.as_str(), FIRST);
+    let mut desk = Bare::new(alloc, keys, Limits::STANDARD)?;
+    let mut room = Room::new(alloc)?;
+    let first = serve_link(&(), &mut link, &mut desk, limit, &mut room);
+    let second = serve_link(&(), &mut link, &mut desk, u64::MAX, &mut room);
+    Ok((first, second, hex::encode(alloc, link.sink.taken())?))
+}
+
+// A limit of one frame's length ends behind its reply, and a Bye within the limit comes first. What is behind an end is
+// not read. A reply goes before more is read, and a call counts whose reply cannot be sent.
+#[test]
+fn ends_of_a_kept_link(rt: HostRuntime) -> Result<(), Fail> {
+    let keys = RandomState::new(&rt)?;
+    let alloc = rt.alloc();
+    for more in [0, 255] {
+        let (first, second, replies) = served_twice(alloc, keys, ADD, more, 17, &[])?;
+        assert_eq!(rt; (first, second), (SessionEnd::TooLong, SessionEnd::Ended));
+        assert_eq!(rt; replies.as_str(), FIRST);
+        let (first, second, replies) = served_twice(alloc, keys, TWO, more, 17, &[])?;
+        assert_eq!(rt; (first, second), (SessionEnd::TooLong, SessionEnd::Ended));
+        assert_eq!(rt; replies.as_str(), TWICE);
+        let (first, second, replies) = served_twice(alloc, keys, BYE_ADD, more, 5, &[])?;
+        assert_eq!(rt; (first, second), (SessionEnd::Bye, SessionEnd::Ended));
+        assert_eq!(rt; replies.as_str(), "010000008a050000008200100000");
+        let (first, second, replies) = served_twice(alloc, keys, ADD_COUNTS, more, 100, &[0])?;
+        assert_eq!(rt;
+            (first, second),
+            (SessionEnd::WriteFault, SessionEnd::Ended)
+        );
+        assert_eq!(rt; replies.as_str(), "0d00000089010000000000000000000000");
+    }
     Ok(())
 }
 
@@ -475,19 +543,47 @@ fn one_byte_a_give(rt: HostRuntime) -> Result<(), Fail> {
     Ok(())
 }
 
-// The longest record is taken: a list of 16,382 arguments.
-#[test]
-fn longest_record(rt: HostRuntime) -> Result<(), Fail> {
-    let keys = RandomState::new(&rt)?;
-    let mut bytes = hex::decode(rt.alloc(), "0100010002feff0112fe3f0000")?;
-    for _ in 0..16_382u32 {
-        bytes.extend_from_slice(&[0x74, 0, 0, 0])?;
+// The replies of a session whose input begins so and then has so many bytes of one kind, and its end.
+fn talk_of(
+    alloc: Global,
+    keys: RandomState,
+    start: &str,
+    rest: (&[u8], u32),
+    end: &str,
+) -> Result<(String, Status), Fail> {
+    let mut bytes = hex::decode(alloc, start)?;
+    for _ in 0..rest.1 {
+        bytes.extend_from_slice(rest.0)?;
     }
-    let mut source = MemSource::new(bytes, 65_536, Vec::new(rt.alloc()));
-    let mut sink = MemSink::new(rt.alloc(), Vec::new(rt.alloc()));
-    let words = session_words(rt.alloc())?;
-    let status = run(rt.alloc(), keys, &words, &mut source, &mut sink, no_file()).0;
-    assert_eq!(rt; status, Status::Ok);
-    assert_eq!(rt; hex::encode(rt.alloc(), sink.taken())?.as_str(), FIRST);
+    bytes.extend_from_slice(&hex::decode(alloc, end)?)?;
+    let mut source = MemSource::new(bytes, 65_536, Vec::new(alloc));
+    let mut sink = MemSink::new(alloc, Vec::new(alloc));
+    let words = session_words(alloc)?;
+    let status = run(alloc, keys, &words, &mut source, &mut sink, no_file()).0;
+    Ok((hex::encode(alloc, sink.taken())?, status))
+}
+
+// The longest record is taken, a list of 16,382 arguments, and the longest name. A name of a byte more is a bad body, and
+// leaves the tables empty.
+#[test]
+fn longest_record_and_name(rt: HostRuntime) -> Result<(), Fail> {
+    let keys = RandomState::new(&rt)?;
+    let alloc = rt.alloc();
+    let (replies, status) = talk_of(
+        alloc,
+        keys,
+        "0100010002feff0112fe3f0000",
+        (&[0x74, 0, 0, 0], 16_382),
+        "",
+    )?;
+    assert_eq!(rt; (replies.as_str(), status), (FIRST, Status::Ok));
+    let (replies, status) = talk_of(alloc, keys, "0000010004", (b"a", 65_535), "")?;
+    assert_eq!(rt;
+        (replies.as_str(), status),
+        ("050000008401000000", Status::Ok)
+    );
+    let (replies, status) = talk_of(alloc, keys, "0100010004", (b"a", 65_536), "0100000009")?;
+    let want = "0a000000ff0300000100000000000d00000089000000000000000000000000";
+    assert_eq!(rt; (replies.as_str(), status), (want, Status::Ok));
     Ok(())
 }

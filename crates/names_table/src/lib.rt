@@ -4,6 +4,8 @@
 mod entries;
 mod fault;
 mod table;
+#[cfg(test)]
+mod tests;
 
 pub use crate::fault::NameFault;
 pub use crate::table::NamesTable;

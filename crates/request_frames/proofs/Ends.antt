@@ -1,13 +1,12 @@
 -- How a session ends follows from its input, where nothing fails.
-use Rattle.std.proofs.Common.{◌≡◌, ◌≢◌, ◌<◌, ℕ, List, [], ◌∷◌, ◌++◌, length, refl, sym, ap, subst, ◌∙◌, inl, inr, ⊎_elim, arith, append_assoc, length-append, Some}
+use Rattle.std.proofs.Common.{◌≡◌, ◌≢◌, ◌<◌, ℕ, List, [], ◌∷◌, ◌++◌, length, refl, sym, ap, subst, ◌∙◌, inl, inr, ⊎_elim, arith, append_assoc, length-append}
 use Rattle.std.proofs.lemmas.List.{append-nil}
 use Rattle.srv_edge.specs.declared.failed.SessionEnd.{SessionEnd}
 use Rattle.srv_edge.specs.declared.failed.SessionEnd.TheVariants.{Bye, Ended, CutShort, BadLength, ReadFault, WriteFault, TooLong}
 use Rattle.srv_edge.specs.Frames.{Frame, Tail, at_end, cut_short, bad_length, at_bye, AreFrames, frame_bytes, word_bytes}
 use Rattle.srv_edge.proofs.Streams.{one_reading}
 use Rattle.request_frames.specs.Requests.{Asked}
-use Rattle.request_frames.specs.Session.{IsSession, end_at}
-use Rattle.request_frames.specs.Next.{IsInputEnd}
+use Rattle.request_frames.specs.Session.{IsInputEnd, IsSession, end_at}
 
 -- a tail that stays whatever follows
 abbrev IsClosed : Tail → Type 0
@@ -32,7 +31,7 @@ frames_extend bytes more (f ∷ frames) tail closed a = (
 module _ {S : Type 0} (answers : S → Asked → Frame → S → Type 0) where
   -- the input is what was read and what is left
   pub session_end : (limit : ℕ) (old new : S) (read sent input rest : List ℕ) (end : SessionEnd) → IsSession answers limit old new read sent end
-      → input ≡ read ++ rest → (IsInputEnd (Some end) → rest ≡ []) → end ≢ ReadFault → end ≢ WriteFault → length input < limit
+      → input ≡ read ++ rest → (IsInputEnd end → rest ≡ []) → end ≢ ReadFault → end ≢ WriteFault → length input < limit
       → (frames : List Frame) (tail : Tail) → AreFrames input frames tail → end ≡ end_at tail
   session_end limit old new read sent input rest Bye s split none no_read no_write short frames tail a =
       let closed = frames_extend read rest s.frames at_bye tt (subst (AreFrames read s.frames) s.ends s.stream) in

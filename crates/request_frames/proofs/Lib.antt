@@ -1,4 +1,3 @@
 pub mod Ends
-mod ReplyBodies
 mod OneRequest
 pub mod Turns

@@ -1,11 +1,11 @@
 -- What a session reads next, and one turn of its loop.
 use Rattle.std.specs.Prelude.{◌≡◌, ◌≤◌, ◌<◌, ◌^◌, ◌⊎◌, ⊤, ℕ, List, [], length, Option, None, Some}
 use Rattle.srv_edge.specs.declared.failed.SessionEnd.{SessionEnd}
-use Rattle.srv_edge.specs.declared.failed.SessionEnd.TheVariants.{Bye, WriteFault, Ended as InputEnded, CutShort as InputCut}
+use Rattle.srv_edge.specs.declared.failed.SessionEnd.TheVariants.{Bye, WriteFault}
 use Rattle.srv_edge.specs.Frames.{Frame, IsBye, IsLength, IsPartFrame, frame_bytes, length_of, word_bytes}
 use Rattle.request_frames.specs.Requests.{Asked}
 use Rattle.request_frames.specs.Talk.{AnswersFrame}
-use Rattle.request_frames.specs.Session.{IsSession}
+use Rattle.request_frames.specs.Session.{IsInputEnd, IsSession}
 use Rattle.request_frames.specs.declared.next.Filled.{Filled}
 use Rattle.request_frames.specs.declared.next.Filled.TheVariants.{Full, NothingLeft, AtLimit, Failed}
 use Rattle.request_frames.specs.declared.next.Next.{Next}
@@ -48,8 +48,7 @@ IsAnswered (Some Bye) = ⊤
 IsAnswered (Some WriteFault) = ⊤
 IsAnswered (Some end) = ⊥
 
--- the input ended, between two frames or within one
-abbrev pub IsInputEnd : Option SessionEnd → Type 0
-IsInputEnd (Some InputEnded) = ⊤
-IsInputEnd (Some InputCut) = ⊤
-IsInputEnd turn = ⊥
+-- a turn that ended at the input's end
+abbrev pub EndsInput : Option SessionEnd → Type 0
+EndsInput None = ⊥
+EndsInput (Some end) = IsInputEnd end

@@ -1,5 +1,5 @@
 -- Replies as frames.
-use Rattle.std.specs.Prelude.{◌≡◌, ◌≢◌, ◌⊎◌, ℕ, [], ◌++◌}
+use Rattle.std.specs.Prelude.{◌≡◌, ◌≢◌, ◌≤◌, ◌⊎◌, ⊤, ℕ, [], ◌++◌, All}
 use Rattle.srv_edge.specs.Frames.{Frame, half_bytes, refused, word_bytes}
 use Rattle.request_frames.specs.declared.reply.Reply.{Reply}
 use Rattle.request_frames.specs.declared.reply.Reply.TheVariants.{Hello, AddedType, AddedItem, AddedName, GotType, GotItem, GotName, Counted, Bye, Refused}
@@ -21,6 +21,19 @@ reply_frame (Refused code a b) = refused code a b
 abbrev pub IsReplyKind : ℕ → Type 0
 IsReplyKind kind = (kind ≡ 129) ⊎ (kind ≡ 130) ⊎ (kind ≡ 131) ⊎ (kind ≡ 132) ⊎ (kind ≡ 133) ⊎ (kind ≡ 134) ⊎ (kind ≡ 135) ⊎ (kind ≡ 137) ⊎ (kind ≡ 138) ⊎ (kind ≡ 255)
 
+-- what is answered: the version 1, a name without NUL, a refusal of one of the codes 1 to 9
+abbrev pub IsReply : Reply → Type 0
+IsReply (Hello version) = version ≡ 1
+IsReply (AddedType index) = ⊤
+IsReply (AddedItem index) = ⊤
+IsReply (AddedName offset) = ⊤
+IsReply (GotType r) = ⊤
+IsReply (GotItem r) = ⊤
+IsReply (GotName name) = All (λ b. b ≢ 0) name.now
+IsReply (Counted types items names) = ⊤
+IsReply Bye = ⊤
+IsReply (Refused code a b) = (1 ≤ code) × (code ≤ 9)
+
 -- a frame whose body no reply of its kind has
 abbrev pub IsBadReply : Frame → Type 0
-IsBadReply f = IsReplyKind f.kind × ((reply : Reply) → reply_frame reply ≢ f)
+IsBadReply f = IsReplyKind f.kind × ((reply : Reply) → IsReply reply → reply_frame reply ≢ f)

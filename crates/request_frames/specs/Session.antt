@@ -20,6 +20,16 @@ EndsAt TooLong tail count limit = IsOpen tail × (count ≡ limit)
 EndsAt ReadFault tail count limit = IsOpen tail × (count < limit)
 EndsAt WriteFault tail count limit = ⊤
 
+-- the input ended, between two frames or within one
+abbrev pub IsInputEnd : SessionEnd → Type 0
+IsInputEnd Bye = ⊥
+IsInputEnd Ended = ⊤
+IsInputEnd CutShort = ⊤
+IsInputEnd BadLength = ⊥
+IsInputEnd TooLong = ⊥
+IsInputEnd ReadFault = ⊥
+IsInputEnd WriteFault = ⊥
+
 -- All of the text is sent, or at a fault of the sink a front of it that is not all.
 abbrev pub Sends : SessionEnd → List ℕ → List ℕ → Type 0
 Sends Bye sent text = sent ≡ text

@@ -1,13 +1,19 @@
-ghost use Rattle.std.specs.Prelude.{◌≡◌, ◌≢◌, ◌≤◌, ◌++◌, ◌∷◌, ℕ, length, slice_index, IfOk, IfSome, IfNone, OnOk, OnErr, Err};
-ghost use Rattle.srv_edge.specs.Frames.{frame_bytes, half_bytes, word_bytes};
+ghost use Rattle.std.specs.Prelude.{◌≡◌, ◌≢◌, ◌≤◌, ◌++◌, ◌∷◌, ℕ, length, slice_index, All, IfOk, OnOk, OnErr, Err};
+ghost use Rattle.srv_edge.specs.Frames.{frame_bytes, half_bytes, refused, word_bytes};
 ghost use Rattle.request_frames.specs.Requests.{FitsFrame, IsAsked, asked, frame_of, request_frame};
-ghost use Rattle.request_frames.specs.Replies.{IsBadReply, IsReplyKind, reply_frame};
+ghost use Rattle.request_frames.specs.Replies.{IsBadReply, IsReply, IsReplyKind, reply_frame};
 
 use crate::read::read_word;
 use crate::reply::Reply;
 use crate::request::{BadFrame, Request};
 use srv_edge::{half, half_at, word, word_at};
 use std::alloc::AllocError;
+
+/// The version of the protocol that is spoken.
+pub const VERSION: u16 = 1;
+
+/// The greatest code of a refusal.
+const LAST_CODE: u8 = 9;
 
 /// Writes a request behind what is there, with its length.
 pub fn write_request(r: &Request, out: &mut Vec<u8>) -> Result<(), AllocError>
@@ -46,74 +52,87 @@ fn append(kind: u8, body: &[u8], out: &mut Vec<u8>) -> Result<(), AllocError>
 pub fn read_reply<'a>(frame: &'a [u8]) -> Result<Reply<'a>, BadFrame>
     requires { 1 ≤ length frame.now }
     ensures reply { IfOk result (λ reply. reply_frame reply ≡ frame_of frame.now) }
+    ensures answered { IfOk result (λ reply. IsReply reply) }
     ensures kind { result ≡ Err BadFrame.Kind → ¬ IsReplyKind (slice_index frame.now 0) }
     ensures body { result ≡ Err BadFrame.Body → IsBadReply (frame_of frame.now) }
 {
     let body = &frame[1..];
     match frame[0] {
-        0x81 => match read_half(body) {
-            Some(version) => Ok(Reply::Hello(version)),
-            None => Err(BadFrame::Body),
-        },
-        0x82 => match read_word(body) {
-            Some(index) => Ok(Reply::AddedType(index)),
-            None => Err(BadFrame::Body),
-        },
-        0x83 => match read_word(body) {
-            Some(index) => Ok(Reply::AddedItem(index)),
-            None => Err(BadFrame::Body),
-        },
-        0x84 => match read_word(body) {
-            Some(offset) => Ok(Reply::AddedName(offset)),
-            None => Err(BadFrame::Body),
-        },
+        0x81 => read_hello(body),
+        0x82 => Ok(Reply::AddedType(read_word(body)?)),
+        0x83 => Ok(Reply::AddedItem(read_word(body)?)),
+        0x84 => Ok(Reply::AddedName(read_word(body)?)),
         0x85 => Ok(Reply::GotType(body)),
         0x86 => Ok(Reply::GotItem(body)),
-        0x87 => Ok(Reply::GotName(body)),
-        0x89 => read_counts(body).ok_or(BadFrame::Body),
+        0x87 => read_name(body),
+        0x89 => read_counts(body),
         0x8a if body.is_empty() => Ok(Reply::Bye),
         0x8a => Err(BadFrame::Body),
-        0xff => read_refusal(body).ok_or(BadFrame::Body),
+        0xff => read_refusal(body),
         _ => Err(BadFrame::Kind),
     }
 }
 
-// A body that is one number of two bytes.
-fn read_half(body: &[u8]) -> Option<u16>
-    ensures half { IfSome result (λ n. half_bytes n ≡ body.now) }
-    ensures none { IfNone result ((n : ℕ) → half_bytes n ≢ body.now) }
+// A body that is the version of the protocol.
+fn read_hello<'a>(body: &[u8]) -> Result<Reply<'a>, BadFrame>
+    ensures reply { IfOk result (λ reply. reply_frame reply ≡ record { kind = 129; body = body.now }) }
+    ensures answered { IfOk result (λ reply. IsReply reply) }
+    ensures err { OnErr result (result ≡ Err BadFrame.Body) }
+    ensures bad { OnErr result (half_bytes 1 ≢ body.now) }
 {
-    if body.len() == 2 {
-        Some(half_at(body))
-    } else {
-        None
+    if body.len() != 2 {
+        return Err(BadFrame::Body);
     }
+    let version = half_at(body);
+    if version != VERSION {
+        return Err(BadFrame::Body);
+    }
+    Ok(Reply::Hello(version))
+}
+
+// A body that is a name.
+fn read_name<'a>(body: &'a [u8]) -> Result<Reply<'a>, BadFrame>
+    ensures reply { IfOk result (λ reply. reply_frame reply ≡ record { kind = 135; body = body.now }) }
+    ensures answered { IfOk result (λ reply. IsReply reply) }
+    ensures err { OnErr result (result ≡ Err BadFrame.Body) }
+    ensures bad { OnErr result (¬ All (λ b. b ≢ 0) body.now) }
+{
+    if body.contains(&0) {
+        return Err(BadFrame::Body);
+    }
+    Ok(Reply::GotName(body))
 }
 
 // A body that is three numbers.
-fn read_counts<'a>(body: &[u8]) -> Option<Reply<'a>>
-    ensures counts { IfSome result (λ reply. reply_frame reply ≡ record { kind = 137; body = body.now }) }
-    ensures none { IfNone result (length body.now ≢ 12) }
+fn read_counts<'a>(body: &[u8]) -> Result<Reply<'a>, BadFrame>
+    ensures reply { IfOk result (λ reply. reply_frame reply ≡ record { kind = 137; body = body.now }) }
+    ensures answered { IfOk result (λ reply. IsReply reply) }
+    ensures err { OnErr result (result ≡ Err BadFrame.Body) }
+    ensures bad { OnErr result ((types items names : ℕ) → word_bytes types ++ word_bytes items ++ word_bytes names ≢ body.now) }
 {
     if body.len() != 12 {
-        return None;
+        return Err(BadFrame::Body);
     }
     let rest = &body[4..];
-    Some(Reply::Counted(word_at(body), word_at(rest), word_at(&rest[4..])))
+    Ok(Reply::Counted(word_at(body), word_at(rest), word_at(&rest[4..])))
 }
 
 // A body that is a code and two numbers.
-fn read_refusal<'a>(body: &[u8]) -> Option<Reply<'a>>
-    ensures refusal { IfSome result (λ reply. reply_frame reply ≡ record { kind = 255; body = body.now }) }
-    ensures none { IfNone result (length body.now ≢ 9) }
+fn read_refusal<'a>(body: &[u8]) -> Result<Reply<'a>, BadFrame>
+    ensures reply { IfOk result (λ reply. reply_frame reply ≡ record { kind = 255; body = body.now }) }
+    ensures answered { IfOk result (λ reply. IsReply reply) }
+    ensures err { OnErr result (result ≡ Err BadFrame.Body) }
+    ensures bad { OnErr result ((code a b : ℕ) → 1 ≤ code → code ≤ 9 → (refused code a b).body ≢ body.now) }
 {
     if body.len() != 9 {
-        return None;
+        return Err(BadFrame::Body);
+    }
+    let code = body[0];
+    if code == 0 || code > LAST_CODE {
+        return Err(BadFrame::Body);
     }
     let numbers = &body[1..];
-    Some(Reply::Refused {
-        code: body[0],
-        a: word_at(numbers),
-        b: word_at(&numbers[4..]),
-    })
+    let a = word_at(numbers);
+    let b = word_at(&numbers[4..]);
+    Ok(Reply::Refused { code, a, b })
 }

@@ -14,7 +14,7 @@ mod serve;
 mod tests;
 mod write;
 
-pub use crate::client::{read_reply, write_request};
+pub use crate::client::{VERSION, read_reply, write_request};
 pub use crate::desk::Desk;
 pub use crate::laws::one_request_a_frame;
 pub use crate::read::read_request;

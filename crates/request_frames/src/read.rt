@@ -1,4 +1,4 @@
-ghost use Rattle.std.specs.Prelude.{◌≡◌, ◌≢◌, ◌≤◌, ◌<◌, ◌^◌, ℕ, [], length, slice_index, All, IfOk, OnErr, IfSome, IfNone, Err};
+ghost use Rattle.std.specs.Prelude.{◌≡◌, ◌≢◌, ◌≤◌, ◌<◌, ◌^◌, ℕ, [], length, slice_index, All, IfOk, OnErr, Err};
 ghost use Rattle.srv_edge.specs.Frames.{half_bytes, word_bytes};
 ghost use Rattle.request_frames.specs.Requests.{IsAsked, IsBadBody, IsKind, add_name, asked, frame_of, request_frame};
 
@@ -22,18 +22,9 @@ pub fn read_request<'a>(frame: &'a [u8]) -> Result<Request<'a>, BadFrame>
         2 => Ok(Request::AddType(body)),
         3 => Ok(Request::AddItem(body)),
         4 => read_name(body),
-        5 => match read_word(body) {
-            Some(index) => Ok(Request::GetType(index)),
-            None => Err(BadFrame::Body),
-        },
-        6 => match read_word(body) {
-            Some(index) => Ok(Request::GetItem(index)),
-            None => Err(BadFrame::Body),
-        },
-        7 => match read_word(body) {
-            Some(offset) => Ok(Request::GetName(offset)),
-            None => Err(BadFrame::Body),
-        },
+        5 => Ok(Request::GetType(read_word(body)?)),
+        6 => Ok(Request::GetItem(read_word(body)?)),
+        7 => Ok(Request::GetName(read_word(body)?)),
         9 if body.is_empty() => Ok(Request::Counts),
         10 if body.is_empty() => Ok(Request::Bye),
         9 | 10 => Err(BadFrame::Body),
@@ -69,13 +60,14 @@ fn read_name<'a>(body: &'a [u8]) -> Result<Request<'a>, BadFrame>
 }
 
 // A body that is one number of four bytes.
-pub(crate) fn read_word(body: &[u8]) -> Option<u32>
-    ensures word { IfSome result (λ n. word_bytes n ≡ body.now) }
-    ensures none { IfNone result ((n : ℕ) → word_bytes n ≢ body.now) }
+pub(crate) fn read_word(body: &[u8]) -> Result<u32, BadFrame>
+    ensures word { IfOk result (λ n. word_bytes n ≡ body.now) }
+    ensures err { OnErr result (result ≡ Err BadFrame.Body) }
+    ensures bad { OnErr result ((n : ℕ) → word_bytes n ≢ body.now) }
 {
     if body.len() == 4 {
-        Some(word_at(body))
+        Ok(word_at(body))
     } else {
-        None
+        Err(BadFrame::Body)
     }
 }

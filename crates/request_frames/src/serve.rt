@@ -4,8 +4,8 @@ ghost use Rattle.srv_edge.specs.Frames.{AreFrames, Frame, IsBye, IsLength, Tail,
 ghost use Rattle.srv_edge.specs.Stream.{Came, Went};
 ghost use Rattle.request_frames.specs.Requests.{frame_of};
 ghost use Rattle.request_frames.specs.Talk.{AnswersFrame};
-ghost use Rattle.request_frames.specs.Session.{IsSession, Sends, end_at};
-ghost use Rattle.request_frames.specs.Next.{IsAnswered, IsInputEnd, IsTurn, IsWholeFrame};
+ghost use Rattle.request_frames.specs.Session.{IsInputEnd, IsSession, Sends, end_at};
+ghost use Rattle.request_frames.specs.Next.{EndsInput, IsAnswered, IsTurn, IsWholeFrame};
 
 use crate::desk::Desk;
 use crate::next::{Next, next_frame};
@@ -115,7 +115,7 @@ fn serve_next<L: Link, K: Desk>(
 ) -> Option<SessionEnd>
     ensures turn { (sent : List ℕ) × IsTurn K.answers limit desk.old desk.new room.new.frame sent result × Went L.Sink.tells sent (L.taken link.old) (L.taken link.new) }
     ensures came { Came L.Source.tells room.new.frame (L.given link.old) (L.left link.old) (L.given link.new) (L.left link.new) }
-    ensures none_left { IsInputEnd result → IsTrue L.Source.tells → L.left link.new ≡ [] }
+    ensures none_left { EndsInput result → IsTrue L.Source.tells → L.left link.new ≡ [] }
     ensures read_fault { result ≡ Some SessionEnd.ReadFault → Rose (L.Source.faults link.old) (L.Source.faults link.new) }
     ensures write_fault { result ≡ Some SessionEnd.WriteFault → Rose (L.Sink.faults link.old) (L.Sink.faults link.new) }
     ensures link_loans { L.Source.loans link.new ≡ L.Source.loans link.old }
@@ -150,7 +150,7 @@ pub fn serve_link<L: Link, K: Desk>(
     ensures session { (read : List ℕ) × (sent : List ℕ) × IsSession K.answers limit desk.old desk.new read sent result
         × Came L.Source.tells read (L.given link.old) (L.left link.old) (L.given link.new) (L.left link.new)
         × Went L.Sink.tells sent (L.taken link.old) (L.taken link.new) }
-    ensures none_left { IsInputEnd (Some result) → IsTrue L.Source.tells → L.left link.new ≡ [] }
+    ensures none_left { IsInputEnd result → IsTrue L.Source.tells → L.left link.new ≡ [] }
     ensures read_fault { result ≡ SessionEnd.ReadFault → Rose (L.Source.faults link.old) (L.Source.faults link.new) }
     ensures write_fault { result ≡ SessionEnd.WriteFault → Rose (L.Sink.faults link.old) (L.Sink.faults link.new) }
     ensures source_faults { L.Source.faults link.old ≤ L.Source.faults link.new }
@@ -178,7 +178,7 @@ fn serve_frames<L: Link, K: Desk>(
     ensures session { (read : List ℕ) × (sent : List ℕ) × IsSession K.answers limit desk.old desk.new read sent result
         × Came L.Source.tells read (L.given link.old) (L.left link.old) (L.given link.new) (L.left link.new)
         × Went L.Sink.tells sent (L.taken link.old) (L.taken link.new) }
-    ensures none_left { IsInputEnd (Some result) → IsTrue L.Source.tells → L.left link.new ≡ [] }
+    ensures none_left { IsInputEnd result → IsTrue L.Source.tells → L.left link.new ≡ [] }
     ensures read_fault { result ≡ SessionEnd.ReadFault → Rose (L.Source.faults link.old) (L.Source.faults link.new) }
     ensures write_fault { result ≡ SessionEnd.WriteFault → Rose (L.Sink.faults link.old) (L.Sink.faults link.new) }
     ensures source_faults { L.Source.faults link.old ≤ L.Source.faults link.new }

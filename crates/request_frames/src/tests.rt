@@ -1,6 +1,7 @@
 ghost use Rattle.request_frames.specs.Requests.{FitsFrame, IsAsked, asked};
 
-use crate::{Request, read_reply, read_request, write_request};
+use crate::{Request, read_reply, read_request, write_refusal, write_request};
+use srv_edge::{Piece, Refusal};
 use std::alloc::Global;
 use std::test::Fail;
 
@@ -56,9 +57,18 @@ fn replies_by_their_kinds(rt: HostRuntime) -> Result<(), Fail> {
             "ff050000000000100000",
             "Ok(Refused { code: 5, a: 0, b: 4096 })",
         ),
+        ("85", "Ok(GotType([]))"),
+        ("87", "Ok(GotName([]))"),
+        ("810000", "Err(Body)"),
+        ("810200", "Err(Body)"),
+        ("8101", "Err(Body)"),
+        ("87610062", "Err(Body)"),
+        ("8900", "Err(Body)"),
         ("8a00", "Err(Body)"),
         ("82001000", "Err(Body)"),
         ("ff0500000000001000", "Err(Body)"),
+        ("ff000000000000000000", "Err(Body)"),
+        ("ff0a0000000000000000", "Err(Body)"),
         ("8802000000", "Err(Kind)"),
         ("02", "Err(Kind)"),
     ];
@@ -68,6 +78,64 @@ fn replies_by_their_kinds(rt: HostRuntime) -> Result<(), Fail> {
         let reply = read_reply(&bytes);
         let got = format!(in rt.alloc(); "{reply:?}")?;
         assert_eq!(rt; got.as_str(), want);
+    }
+    Ok(())
+}
+
+// A refusal as it is written.
+fn refused(alloc: Global, refusal: Refusal) -> Result<Piece, Fail> {
+    let mut out = Piece::new(alloc)?;
+    write_refusal(&refusal, &mut out);
+    Ok(out)
+}
+
+// Each refusal is written with its code and its numbers, and read again with them.
+#[test]
+fn refusals_both_ways(rt: HostRuntime) -> Result<(), Fail> {
+    let malformed = Refusal::Malformed { at: 14, what: 3 };
+    let not_given = Refusal::NotGiven {
+        space: 1,
+        index: 0x1001,
+    };
+    let full = Refusal::Full {
+        which: 2,
+        needed: 24,
+    };
+    let table = [
+        (malformed, "0a000000ff040e00000003000000", "4, a: 14, b: 3"),
+        (
+            not_given,
+            "0a000000ff050100000001100000",
+            "5, a: 1, b: 4097",
+        ),
+        (full, "0a000000ff060200000018000000", "6, a: 2, b: 24"),
+        (
+            Refusal::OutOfMemory,
+            "0a000000ff070000000000000000",
+            "7, a: 0, b: 0",
+        ),
+        (
+            Refusal::DiskFault { number: 9 },
+            "0a000000ff080900000000000000",
+            "8, a: 9, b: 0",
+        ),
+        (
+            Refusal::Underway { number: 9 },
+            "0a000000ff090900000000000000",
+            "9, a: 9, b: 0",
+        ),
+    ];
+    for (refusal, text, numbers) in table {
+        let out = refused(rt.alloc(), refusal)?;
+        assert_eq!(rt; hex::encode(rt.alloc(), out.bytes())?.as_str(), text);
+        let Some(frame) = out.bytes().get(4..) else {
+            return Err(Fail::new("no frame"));
+        };
+        assert!(rt; !frame.is_empty());
+        let reply = read_reply(frame);
+        let got = format!(in rt.alloc(); "{reply:?}")?;
+        let want = format!(in rt.alloc(); "Ok(Refused {{ code: {numbers} }})")?;
+        assert_eq!(rt; got.as_str(), want.as_str());
     }
     Ok(())
 }

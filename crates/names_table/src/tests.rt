@@ -1,0 +1,50 @@
+//! The names of the protocol's example: each takes its bytes and a NUL behind the NUL of the empty name.
+ghost use Rattle.names_table.specs.Names.{IsName};
+
+use crate::{NameFault, NamesTable};
+use srv_edge::Limits;
+use std::hash::RandomState;
+use std::test::Fail;
+
+// Whether an add gives this answer, and the table then has so many names and bytes.
+fn adds(
+    table: &mut NamesTable,
+    name: &[u8],
+    answer: Result<u32, NameFault>,
+    size: (u32, u32),
+) -> bool
+    requires { IsName name.now }
+{
+    table.add(name) == answer && (table.len(), table.bytes()) == size
+}
+
+#[test]
+fn names_at_their_offsets(rt: HostRuntime) -> Result<(), Fail> {
+    let limits = Limits {
+        records: 1,
+        bytes: 4,
+        name_bytes: 6,
+        calls: 1,
+        blocks: 9,
+    };
+    let mut table = NamesTable::new(rt.alloc(), RandomState::new(&rt)?, limits, 1)?;
+    assert!(rt; table.is_empty());
+    assert!(rt; adds(&mut table, b"", Ok(0), (0, 1)));
+    assert!(rt; adds(&mut table, b"a", Ok(1), (1, 3)));
+    assert!(rt; adds(&mut table, b"bc", Ok(3), (2, 6)));
+    assert!(rt; adds(&mut table, b"a", Ok(1), (2, 6)));
+    assert!(rt; adds(&mut table, b"c", Err(NameFault::Full { needed: 8 }), (2, 6)));
+    let found: [(u32, Option<&[u8]>); 6] = [
+        (0, Some(b"")),
+        (1, Some(b"a")),
+        (2, None),
+        (3, Some(b"bc")),
+        (4, None),
+        (6, None),
+    ];
+    for (offset, name) in found {
+        assert_eq!(rt; table.get(offset), name, "at {offset}");
+    }
+    assert!(rt; !table.is_empty());
+    Ok(())
+}
