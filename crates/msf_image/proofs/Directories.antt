@@ -1,7 +1,8 @@
 -- The directory and the free blocks of a file, as they are read.
 use Rattle.std.proofs.Common.{◌≡◌, ◌≤◌, ◌<◌, ◌+◌, ◌*◌, ◌/◌, ◌-◌, ℕ, inl, inr, List, length, map, take, drop, get_or, All, Option, Result, Ok, sym, ap, subst, ◌∙◌, IsErrAnd, arith}
 use Rattle.std.proofs.lemmas.List.{length-drop, take_all}
-use Rattle.std.proofs.lemmas.List.FromFn.{get_or-map-range_with_len, length-map-range_with_len}
+use Rattle.std.proofs.lemmas.List.Elements.{All-filter}
+use Rattle.std.proofs.lemmas.List.FromFn.{get_or-map-range_with_len, get_or-range_with_len, length-map-range_with_len, length-range_with_len}
 use Rattle.std.proofs.lemmas.Nat.{mul-le}
 use Rattle.std.proofs.Math.Nat.{div-lt_iff_lt-mul, div-mul-le_self, lt-div-mul-add, mul_assoc, mul_comm, suc-mul}
 use Rattle.std.specs.List.{range_with_len}
@@ -15,7 +16,7 @@ use Rattle.stream_directory.specs.Reading.{Fails, reading}
 use Rattle.msf_image.specs.declared.fault.OpenFault.{OpenFault}
 use Rattle.msf_image.specs.Faults.{fault_of_directory}
 use Rattle.msf_image.specs.Reads.{Tells, active_map_blocks, bytes_of_blocks, free_blocks_in, of_file, streams_in}
-use Rattle.free_page_maps.specs.FreeBlocks.{FreeBlocks, free_in}
+use Rattle.free_page_maps.specs.FreeBlocks.{FreeBlocks, below_where, free_in}
 use Rattle.msf_image.proofs.Listed.{told_fails}
 
 streams_as : (s : Super) (file listed text : List ℕ) → text ≡ take s.dir_bytes (bytes_of_blocks s.block file (take (length listed - 1) (drop 1 listed))) → streams_in file s listed ≡ of_file (reading s listed text)
@@ -73,3 +74,10 @@ done x = Ok x
 pub free_as : (s : Super) (file maps blocks : List ℕ) (m : FreeBlocks) → m ≡ free_in s.block s.blocks maps → maps ≡ bytes_of_blocks s.block file blocks → blocks ≡ active_map_blocks s → done (free_blocks_in file s) ≡ done m
 unfolding free_blocks_in
 free_as s file maps blocks m is read listed = ap done (sym (is ∙ ap (free_in s.block s.blocks) (read ∙ ap (bytes_of_blocks s.block file) listed)))
+
+-- every free block lies in the file
+pub free_inside : (size blocks : ℕ) (maps : List ℕ) (m : FreeBlocks) → m ≡ free_in size blocks maps → All (λ b. b < blocks) m.free
+unfolding below_where
+free_inside size blocks maps m is =
+    let all : All (λ b. b < blocks) (range_with_len 0 blocks) = λ k d lt. omega (arith, lt, length-range_with_len 0 blocks, get_or-range_with_len 0 blocks k d (omega (arith, lt, length-range_with_len 0 blocks))) in
+    subst (λ free. All (λ b. b < blocks) free.free) (sym is) (All-filter _ (λ b. b < blocks) (range_with_len 0 blocks) all)

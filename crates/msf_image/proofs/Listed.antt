@@ -1,5 +1,5 @@
 -- The blocks that the block map lists, and faults that are told.
-use Rattle.std.proofs.Common.{◌≡◌, ◌≤◌, ◌<◌, ◌+◌, ◌*◌, ◌/◌, ◌%◌, ◌++◌, ◌-◌, ℕ, zero, suc, List, [], ◌∷◌, length, take, All, Option, None, Result, Ok, Err, sym, ap, subst, ◌∙◌, IsErrAnd, arith}
+use Rattle.std.proofs.Common.{◌≡◌, ◌≤◌, ◌<◌, ◌+◌, ◌*◌, ◌/◌, ◌%◌, ◌++◌, ◌-◌, ℕ, zero, suc, List, [], ◌∷◌, append_assoc, length, take, drop, All, Option, None, Result, Ok, Err, sym, ap, subst, ◌∙◌, IsErrAnd, arith}
 use Rattle.std.proofs.lemmas.List.{append-nil, length-take-le}
 use Rattle.std.proofs.lemmas.Nat.{mul-le}
 use Rattle.std.proofs.Math.Nat.{div-lt_iff_lt-mul, mul-div_left, mul_assoc, mul_comm, suc-mul}
@@ -75,6 +75,16 @@ usable_inside s earlier (b ∷ blocks) is (suc k) d lt = usable_inside s (earlie
 
 pub listed_inside : (s : Super) (blocks : List ℕ) → first_bad s [] blocks ≡ None → All (λ b. b < s.blocks) blocks
 listed_inside s blocks none = usable_inside s [] blocks (usable_from_none s [] blocks none)
+
+-- blocks that are usable, and others that are so behind them
+pub usable_both : (s : Super) (earlier blocks others : List ℕ) → AreUsable s earlier blocks → AreUsable s (earlier ++ blocks) others → AreUsable s earlier (blocks ++ others)
+usable_both s earlier [] others one two = subst (λ used. AreUsable s used others) (append-nil earlier) two
+usable_both s earlier (b ∷ blocks) others one two =
+    (one.0, one.1, one.2, usable_both s (earlier ++ b ∷ []) blocks others one.3 (subst (λ used. AreUsable s used others) (sym (append_assoc earlier (b ∷ []) blocks)) two))
+
+-- the block map is the first
+pub listed_behind : (map_addr : ℕ) (blocks listed : List ℕ) → listed ≡ map_addr ∷ blocks → listed ≡ map_addr ∷ drop 1 listed
+listed_behind map_addr blocks listed is = is ∙ ap (λ xs. map_addr ∷ drop 1 xs) (sym is)
 
 -- what is listed is what the file lists
 listed_as : (s : Super) (file block_map listed : List ℕ) → block_map ≡ bytes_of_blocks s.block file (s.map_addr ∷ []) → listed ≡ s.map_addr ∷ take (blocks_of_size s.block s.dir_bytes) (words_in block_map)

@@ -1,5 +1,5 @@
 -- The first block of many streams that passes a test.
-use Rattle.std.proofs.Common.{◌≡◌, ◌<◌, ◌+◌, ◌++◌, ℕ, Bool, List, [], ◌∷◌, length, take, drop, get_or, find, Option, Some, None, refl, sym, ap, ◌∙◌}
+use Rattle.std.proofs.Common.{◌≡◌, ◌<◌, ◌+◌, ◌++◌, ℕ, zero, suc, Bool, true, false, cond, All, arith, List, [], ◌∷◌, length, take, drop, get_or, find, Option, Some, None, refl, sym, ap, ◌∙◌}
 use Rattle.std.specs.List.{flat_map}
 use Rattle.std.specs.Option.{option_or}
 use Rattle.std.proofs.lemmas.List.{append-nil, take_more, take-append-drop}
@@ -28,3 +28,13 @@ find_front p xs ys x here = find_apart p xs ys (Some x) _ here refl
 
 pub find_behind : {X : Type 0} (p : X → Bool) (xs ys : List X) (found : Option X) → find p xs ≡ None → find p ys ≡ found → find p (xs ++ ys) ≡ found
 find_behind p xs ys found none behind = find_apart p xs ys None found none behind
+
+not_here : {X : Type 0} (found : Bool) (x : X) (rest : Option X) → cond found (Some x) rest ≡ None → (found ≡ false) × (rest ≡ None)
+not_here true x rest is = absurd cc
+not_here false x rest is = (refl, is)
+
+-- where none is found, no element passes
+pub none_passes : {X : Type 0} (p : X → Bool) (xs : List X) → find p xs ≡ None → All (λ x. p x ≡ false) xs
+none_passes p [] none k d lt = absurd (omega (arith, lt))
+none_passes p (x ∷ xs) none zero d lt = (not_here (p x) x (find p xs) none).0
+none_passes p (x ∷ xs) none (suc k) d lt = none_passes p xs (not_here (p x) x (find p xs) none).1 k d (omega (arith, lt))

@@ -1,5 +1,5 @@
 -- What a file reads as: its superblock, its directory and its free blocks; or its first damage.
-use Rattle.std.specs.Prelude.{◌≡◌, ℕ, List, [], ◌∷◌, ◌++◌, length, All, map, take, drop, find, Option, Some, None, Result, Ok, Err}
+use Rattle.std.specs.Prelude.{◌≡◌, ◌<◌, ℕ, List, [], ◌∷◌, ◌++◌, length, All, map, take, drop, find, false, Option, Some, None, Result, Ok, Err}
 use Rattle.std.specs.List.{flat_map, range_with_len}
 use Rattle.msf_blocks.specs.declared.superblock.Super.{Super}
 use Rattle.msf_blocks.specs.declared.superblock.SuperFault.{SuperFault}
@@ -7,7 +7,7 @@ use Rattle.msf_blocks.specs.Blocks.{IsReserved, blocks_of_size, block_offset, ma
 use Rattle.msf_blocks.specs.Superblock.{IsSuper, first_fault, numbers_of, superblock_tests}
 use Rattle.free_page_maps.specs.FreeBlocks.{FreeBlocks, free_in, is_free}
 use Rattle.stream_directory.specs.declared.fault.DirFault.{DirFault}
-use Rattle.stream_directory.specs.Directory.{IsDirectory, StreamBlocks, blocks_in}
+use Rattle.stream_directory.specs.Directory.{AreUsable, IsDirectory, StreamBlocks, blocks_in}
 use Rattle.stream_directory.specs.Reading.{first_bad, reading, unless, words_in}
 use Rattle.msf_image.specs.declared.fault.DamageKind.TheVariants.{BlockFree}
 use Rattle.msf_image.specs.declared.fault.OpenFault.{OpenFault}
@@ -90,12 +90,19 @@ Tells view (Err (Damage kind place)) told = told ≡ Err (Damage kind place)
 Tells view (Err DiskFault) told = Unit {0}
 Tells view (Err OutOfMemory) told = Unit {0}
 
--- a superblock, a directory whose streams have usable blocks, and free blocks of the file that are not reserved
+-- what stands of a file that was opened, whatever bytes the device gave
 pub record IsWhole (image : Image) : Type 0 where
   pub head : IsSuper image.head
-  pub listed : List ℕ
-  pub directory : IsDirectory image.head listed image.directory
-  pub blocks : image.free.blocks ≡ image.head.blocks
+  -- the blocks of the directory, as many as it takes, which the block map lists
+  pub blocks : List ℕ
+  pub count : length blocks ≡ blocks_of_size image.head.block image.head.dir_bytes
+  pub directory : IsDirectory image.head (image.head.map_addr ∷ blocks) image.directory
+  -- the used blocks are unreserved, in the file and all different, and none of them is free
+  pub usable : AreUsable image.head [] (used_blocks (image.head.map_addr ∷ blocks) image.directory)
+  pub none_free : All (λ b. is_free image.free b ≡ false) (used_blocks (image.head.map_addr ∷ blocks) image.directory)
+  -- the free blocks are in the file and unreserved
+  pub size : image.free.blocks ≡ image.head.blocks
+  pub inside : All (λ b. b < image.head.blocks) image.free.free
   pub unreserved : All (λ b. ¬ IsReserved image.head.block b) image.free.free
 
 -- The content of a stream: its blocks joined, and cut to its size. An absent stream, and one that is not there, has none.

@@ -15,4 +15,6 @@ pub use crate::open::open_image;
 pub use crate::packed::{is_packable, new_file};
 
 #[cfg(test)]
+mod open_tests;
+#[cfg(test)]
 mod packed_tests;

@@ -1,13 +1,13 @@
 //! Opening: the superblock, the directory and the active free block map, each judged before what stands behind it is read.
 
-ghost use Rattle.std.specs.Prelude.{◌≡◌, ◌≤◌, ◌<◌, ◌+◌, ◌*◌, ◌^◌, IsTrue, All, Ok, ◌∷◌, find, length, take, IfOk, IsErrOf};
+ghost use Rattle.std.specs.Prelude.{◌≡◌, ◌≤◌, ◌<◌, ◌+◌, ◌*◌, ◌^◌, IsTrue, false, All, Ok, [], ◌∷◌, find, length, take, drop, IfOk, OnOk, IsErrOf};
 ghost use Rattle.std.specs.List.{flat_map};
 ghost use Rattle.srv_edge.specs.Count.{Rose};
 ghost use Rattle.srv_edge.specs.Disk.{LeavesOnly};
 ghost use Rattle.msf_blocks.specs.Blocks.{IsReserved, blocks_of_size};
 ghost use Rattle.msf_blocks.specs.Superblock.{IsSuper};
 ghost use Rattle.free_page_maps.specs.FreeBlocks.{is_free};
-ghost use Rattle.stream_directory.specs.Directory.{IsDirectory, blocks_in};
+ghost use Rattle.stream_directory.specs.Directory.{AreUsable, IsDirectory, blocks_in};
 ghost use Rattle.stream_directory.specs.Reading.{words_in};
 ghost use Rattle.msf_image.specs.Reads.{IsWhole, Tells, active_map_blocks, free_blocks_in, listed_blocks, read_file, streams_in, superblock_in, used_blocks, with_free};
 
@@ -94,6 +94,8 @@ fn read_listed<D: Device>(
     requires passes { IsSuper head.now }
     requires inside { IsTrue D.tells → head.now.blocks * head.now.block ≤ length (D.seen device.old) }
     ensures used { IfOk result (λ listed. All (λ b. b < head.now.blocks) listed.items) }
+    ensures usable { IfOk result (λ listed. AreUsable head.now [] listed.items) }
+    ensures block_map { IfOk result (λ listed. listed.items ≡ head.now.map_addr ∷ drop 1 listed.items) }
     ensures count { IfOk result (λ listed. length listed.items ≡ 1 + blocks_of_size head.now.block head.now.dir_bytes) }
     ensures reads { IsTrue D.tells → Tells (λ listed. listed.items) result (listed_blocks (D.seen device.old) head.now) }
     ensures disk_fault { IsErrOf result OpenFault.DiskFault → Rose (D.fault_count device.old) (D.fault_count device.new) }
@@ -156,6 +158,7 @@ fn read_free_blocks<D: Device>(
     requires passes { IsSuper head.now }
     requires inside { IsTrue D.tells → head.now.blocks * head.now.block ≤ length (D.seen device.old) }
     ensures blocks { IfOk result (λ m. m.blocks ≡ head.now.blocks) }
+    ensures inside { IfOk result (λ m. All (λ b. b < head.now.blocks) m.free) }
     ensures unreserved { IfOk result (λ m. All (λ b. ¬ IsReserved head.now.block b) m.free) }
     ensures reads { IsTrue D.tells → Tells (λ free. free) result (Ok (free_blocks_in (D.seen device.old) head.now)) }
     ensures disk_fault { IsErrOf result OpenFault.DiskFault → Rose (D.fault_count device.old) (D.fault_count device.new) }
@@ -190,6 +193,7 @@ fn active_map_blocks(alloc: Global, head: &Super) -> Result<Vec<u32>, AllocError
 fn judge_used(image: Image, listed: &[u32]) -> Result<Image, OpenFault>
     ensures told { Tells (λ image. image) result (with_free (used_blocks listed.now image.directory) image) }
     ensures same { IfOk result (λ judged. judged ≡ image) }
+    ensures none_free { OnOk result (All (λ b. is_free image.free b ≡ false) (used_blocks listed.now image.directory)) }
     ensures no_fault { ¬ IsErrOf result OpenFault.DiskFault }
 {
     match first_used_free(&image.free, listed, image.directory.streams()) {

@@ -25,7 +25,7 @@ torn_keeps at n a k old new torn fits (inr above) =
 -- a write that is done keeps each range apart from its own
 pub spliced_keeps : (at a k : ℕ) (file bytes : List ℕ) → a + k ≤ length file → (a + k ≤ at) ⊎ (at + length bytes ≤ a) → take k (drop a (spliced file at bytes)) ≡ take k (drop a file)
 spliced_keeps at a k file bytes fits apart =
-    torn_keeps at (length bytes) a k file (spliced file at bytes) (torn-spliced file at bytes) fits apart
+    torn_keeps at (length bytes) a k file (spliced file at bytes) (torn-spliced 0 file at bytes) fits apart
 
 -- the bytes of a write stand in their range
 pub spliced_holds : (file : List ℕ) (at : ℕ) (bytes : List ℕ) → take (length bytes) (drop at (spliced file at bytes)) ≡ bytes
@@ -33,7 +33,7 @@ spliced_holds file at bytes =
     let front : List ℕ = take at file ++ replicate (at - length file) 0 in
     let rest = drop (at + length bytes) file in
     let split : front ++ bytes ++ rest ≡ front ++ (bytes ++ rest) = simp append_assoc in
-    ap (λ xs. take (length bytes) (drop at xs)) split ∙ ap (take (length bytes)) (drop_at front (bytes ++ rest) at (length-front file at))
+    ap (λ xs. take (length bytes) (drop at xs)) split ∙ ap (take (length bytes)) (drop_at front (bytes ++ rest) at (length-front 0 file at))
     ∙ take_at bytes rest (length bytes) refl
 
 -- a head keeps what is behind it

@@ -1,9 +1,13 @@
--- What a write and a crash make of a file.
+-- What a write and a crash make of a file. Its head is the superblock, the first 56 bytes.
 use Rattle.std.specs.Prelude.{◌≡◌, ◌≤◌, ◌<◌, ◌+◌, ◌-◌, ◌++◌, ◌⊎◌, ℕ, List, length, take, drop, replicate, slice_index}
 
--- The file with these bytes at this place. Zeros stand between the old end and the place.
+-- The file with these bytes at this place. Between the old end and the place stands the fill.
+abbrev pub spliced_with : ℕ → List ℕ → ℕ → List ℕ → List ℕ
+spliced_with fill file at bytes = take at file ++ replicate (at - length file) fill ++ bytes ++ drop (at + length bytes) file
+
+-- the same with zeros there
 abbrev pub spliced : List ℕ → ℕ → List ℕ → List ℕ
-spliced file at bytes = take at file ++ replicate (at - length file) 0 ++ bytes ++ drop (at + length bytes) file
+spliced file at bytes = spliced_with 0 file at bytes
 
 -- the file with this head in the place of its first bytes
 abbrev pub headed : List ℕ → List ℕ → List ℕ

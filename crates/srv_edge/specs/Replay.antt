@@ -1,7 +1,7 @@
 -- A record of calls on a file, and what a crash may make of the file after them.
 use Rattle.std.specs.Prelude.{◌≡◌, ◌≤◌, ◌<◌, ◌+◌, ◌++◌, ◌⊎◌, ℕ, slice_index, Bool, true, false, not, if◌then◌else◌, List, [], ◌∷◌, length, take, replicate, ◌==◌, Result, MatchResult}
 use Rattle.std.specs.List.{list_any}
-use Rattle.srv_edge.specs.Disk.{spliced, headed, Torn, Whole}
+use Rattle.srv_edge.specs.Disk.{spliced, spliced_with, headed, Torn, Whole}
 use Rattle.srv_edge.specs.declared.memory_record.Call.{Call}
 use Rattle.srv_edge.specs.declared.memory_record.CallKind.{CallKind}
 use Rattle.srv_edge.specs.declared.memory_record.CallKind.TheVariants.{Size, Read, Write, Super, Sync}
@@ -54,10 +54,11 @@ state_of file calls = after_calls (first_state file) calls
 abbrev pub LeftSince : List ℕ → List Call → ℕ → List ℕ → Type 0
 LeftSince file calls t c = (k : ℕ) × (t ≤ k) × (k ≤ length calls) × IsImageOf (state_of file (take k calls)) c
 
--- the image where each range that is not settled holds the fill, and the heads that are not are all there or none
+-- The image where each range that is not settled holds the fill, also between an old end and a write behind it, and the
+-- heads that are not settled are all there or none.
 abbrev pub image_from : List ℕ → List Step → ℕ → Bool → List ℕ
 image_from settled [] fill heads = settled
-image_from settled (torn at n ∷ older) fill heads = spliced (image_from settled older fill heads) at (replicate n fill)
+image_from settled (torn at n ∷ older) fill heads = spliced_with fill (image_from settled older fill heads) at (replicate n fill)
 image_from settled (whole head ∷ older) fill heads =
     if heads then headed (image_from settled older fill heads) head else image_from settled older fill heads
 
@@ -72,18 +73,18 @@ pub record Adds (calls : List Call) (kind : CallKind) (bytes : List ℕ) (done :
   pub of_bytes : call.bytes.items ≡ bytes
   pub as_done : call.done ≡ done
 
--- whether the call with this number, counted from 0, is told to fail
-abbrev pub is_told : List ℕ → ℕ → Bool
-is_told fail n = list_any (λ y. y == n) fail
+-- whether the call with this number, counted from 0, is to fail
+abbrev pub is_to_fail : List ℕ → ℕ → Bool
+is_to_fail fail n = list_any (λ y. y == n) fail
 
 -- A call is kept, done or failed as this says, or it failed and is not kept.
 abbrev pub KeepsAs : {A E : Type 0} → Bool → List Call → CallKind → List ℕ → Result A E → List Call → Type 0
 KeepsAs done calls kind bytes result calls' =
     MatchResult result (λ _. Adds calls kind bytes true calls' × (done ≡ true)) (λ _. (Adds calls kind bytes false calls' × (done ≡ false)) ⊎ (calls' ≡ calls))
 
--- A call that is done is kept so, and was not told to fail. One that fails is kept so where it was told to, or not kept.
+-- A call that is done is kept so, and was not to fail. One that fails is kept so where it was to, or not kept.
 abbrev pub Keeps : {A E : Type 0} → List ℕ → List Call → CallKind → List ℕ → Result A E → List Call → Type 0
-Keeps fail calls kind bytes result calls' = KeepsAs (not (is_told fail (length calls))) calls kind bytes result calls'
+Keeps fail calls kind bytes result calls' = KeepsAs (not (is_to_fail fail (length calls))) calls kind bytes result calls'
 
 -- no step that is not settled covers this byte
 abbrev pub IsSpared : List Step → ℕ → Type 0

@@ -13,6 +13,8 @@ use crate::failed::Failed;
 ///
 /// What a read gives is one of the images (`seen_is_one`), and only a device that tells its content
 /// has any (`told`).
+///
+/// The head of a file is its superblock, the first 56 bytes.
 pub trait Device {
     /// Whether it tells its content. One that does not has no images.
     ghost tells: { Bool } = { false };

@@ -1,11 +1,12 @@
-//! What a session meets outside itself: sources and sinks of bytes, their fakes in memory and the
-//! standard streams, and the plain types that all crates above share.
+//! What the program meets outside itself: sources and sinks of bytes, and devices, with their fakes in
+//! memory, the standard streams and a file of the system; and the plain types that all crates above share.
 #![tactic(auto)]
 
 mod both;
 mod device;
 mod failed;
 mod file;
+mod laws;
 mod link;
 mod memory;
 mod memory_device;
@@ -26,6 +27,7 @@ pub use crate::both::Both;
 pub use crate::device::Device;
 pub use crate::failed::{Failed, Limits, Refusal, SessionEnd};
 pub use crate::file::FileDevice;
+pub use crate::laws::{images_keep_settled, one_reading};
 pub use crate::link::Link;
 pub use crate::memory::{MemLink, MemSink, MemSource};
 pub use crate::memory_device::MemDevice;

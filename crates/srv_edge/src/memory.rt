@@ -7,7 +7,7 @@ use crate::sink::Sink;
 use crate::source::Source;
 use std::alloc::Global;
 
-/// Bytes in memory, at most so many a call. It fails at the calls that it is told to, counted from 0.
+/// Bytes in memory, at most so many a call. It fails at the calls that it is given, counted from 0.
 #[derive(Drop)]
 pub struct MemSource {
     bytes: Vec<u8>,
@@ -71,7 +71,7 @@ fn copy_front(bytes: &[u8], into: &mut [u8], most: usize) -> usize
     n
 }
 
-/// Keeps what it takes in memory, all of it in each call. It fails at the calls that it is told to,
+/// Keeps what it takes in memory, all of it in each call. It fails at the calls that it is given,
 /// counted from 0, and where memory runs out.
 #[derive(Drop)]
 pub struct MemSink {

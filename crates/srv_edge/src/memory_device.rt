@@ -1,10 +1,10 @@
 ghost use Rattle.std.specs.Prelude.{◌≡◌, ◌≤◌, ◌<◌, ◌+◌, ◌^◌, ◌⊎◌, ℕ, true, false, List, [], length, take, drop, min, slice_get, vec_len, vec_capacity, refl, IfOk, OnOk, OnErr, MatchResult};
-ghost use Rattle.srv_edge.specs.Disk.{spliced, headed, Torn, Whole, Follows, Among, Only, Elapses};
+ghost use Rattle.srv_edge.specs.Disk.{spliced, headed, Torn, Whole, Follows, Among, Only};
 ghost use Rattle.srv_edge.specs.Contents.{shown};
 ghost use Rattle.srv_edge.specs.Count.{last_count};
 ghost use Rattle.srv_edge.specs.Faults.{Counts};
 ghost use Rattle.srv_edge.specs.Kinds.{place_of, IsStill, IsChange};
-ghost use Rattle.srv_edge.specs.Replay.{State, IsImageOf, LeftSince, Keeps, KeepsAs, after_kind, image_of, is_told, state_of};
+ghost use Rattle.srv_edge.specs.Replay.{State, IsImageOf, LeftSince, Keeps, KeepsAs, after_kind, image_of, is_to_fail, state_of};
 
 use crate::device::Device;
 use crate::failed::Failed;
@@ -16,7 +16,7 @@ use std::alloc::{AllocError, Global};
 const MOST_CALLS: usize = 4_294_967_295;
 
 /// A file in memory. It keeps its calls, so that every image that a crash might have left can be
-/// told afterwards. It fails at the calls that it is told to, counted from 0.
+/// made afterwards. It fails at the calls that it is given, counted from 0.
 ///
 /// A call that it finds no memory for, or for which 2^32 - 1 calls were kept before, is not kept,
 /// changes nothing but the count of faults, and answers Failed.
@@ -32,7 +32,7 @@ pub struct MemDevice {
 }
 
 impl MemDevice {
-    ghost use Rattle.srv_edge.specs.Recorded.{first_file, record_of, kinds_of, failing_calls};
+    ghost use Rattle.srv_edge.specs.Recorded.{TimeElapses, first_file, record_of, kinds_of, failing_calls};
 
     /// It takes no memory.
     pub fn new(alloc: Global, bytes: Vec<u8>, fail: Vec<u32>) -> MemDevice
@@ -68,8 +68,9 @@ impl MemDevice {
         self.calls.get(call as usize).map(|c| c.kind)
     }
 
-    /// One of the images after so many calls: each range that is not settled holds the fill, and the
-    /// heads that are not settled are all there or none.
+    /// One of the images after so many calls: each range that is not settled holds the fill, also
+    /// between an old end and a write behind it, and the heads that are not settled are all there or
+    /// none.
     pub fn image(&self, calls: u32, fill: u8, last_super: bool) -> Result<Vec<u8>, AllocError>
         requires { calls ≤ length (record_of self.now) }
         ensures text { IfOk result (λ v. v.items ≡ image_of (state_of (first_file self.now) (take calls (record_of self.now))) fill last_super) }
@@ -80,9 +81,9 @@ impl MemDevice {
         replayed(self.alloc, &self.file.first, calls, fill, last_super)
     }
 
-    // Whether the next call is told to fail.
-    fn is_told(&self) -> bool
-        ensures { result ≡ is_told self.now.fail.items (length self.now.calls.items) }
+    // Whether the next call is to fail.
+    fn is_to_fail(&self) -> bool
+        ensures { result ≡ is_to_fail self.now.fail.items (length self.now.calls.items) }
     {
         self.fail.contains(&(self.calls.len() as u32))
     }
@@ -138,7 +139,7 @@ impl MemDevice {
         if done { Ok(()) } else { Err(self.fault()) }
     }
 
-    // Keeps a call that is no write. It fails where it is told to.
+    // Keeps a call that is no write. It fails where it is to.
     fn note(&mut self, kind: CallKind) -> Result<(), Failed>
         requires { IsStill kind }
         ensures kept { Keeps self.old.fail.items self.old.calls.items kind [] result self.new.calls.items }
@@ -147,13 +148,13 @@ impl MemDevice {
         ensures counted { Counts self.old.faults result self.new.faults }
         ensures never_falls { self.old.faults ≤ self.new.faults }
         ensures among { Among (⟦<MemDevice as Device>⟧.may_leave self.old) (⟦<MemDevice as Device>⟧.may_leave self.new) }
-        ensures time { Elapses (⟦<MemDevice as Device>⟧.moment self.old) (⟦<MemDevice as Device>⟧.moment self.new) (⟦<MemDevice as Device>⟧.left_since self.old) (⟦<MemDevice as Device>⟧.left_since self.new) (⟦<MemDevice as Device>⟧.may_leave self.new) }
+        ensures time { TimeElapses self.old self.new }
     {
-        let done = !self.is_told();
+        let done = !self.is_to_fail();
         self.keep(kind, &[], done)
     }
 
-    // Keeps a write of the bytes at their place. It fails where it is told to.
+    // Keeps a write of the bytes at their place. It fails where it is to.
     fn change(&mut self, kind: CallKind, at: usize, bytes: &[u8]) -> Result<(), Failed>
         requires change { IsChange kind }
         requires place { at ≡ place_of kind }
@@ -165,7 +166,7 @@ impl MemDevice {
         ensures counted { Counts self.old.faults result self.new.faults }
         ensures never_falls { self.old.faults ≤ self.new.faults }
     {
-        if self.is_told() {
+        if self.is_to_fail() {
             return self.keep(kind, bytes, false);
         }
         let call = self.prepare(kind, bytes, true)?;
@@ -179,7 +180,7 @@ impl MemDevice {
 
 impl Device for MemDevice {
     ghost use Rattle.srv_edge.specs.Past.{seen_image, left_now, left_only};
-    ghost use Rattle.srv_edge.specs.Recorded.{first_file, record_of, failing_calls};
+    ghost use Rattle.srv_edge.specs.Recorded.{TimeElapses, first_file, record_of, failing_calls};
 
     ghost tells = { true };
 
@@ -209,7 +210,7 @@ impl Device for MemDevice {
         ensures size { IfOk result (λ n. n ≡ length (⟦<MemDevice as Device>⟧.seen self.old)) }
         ensures seen { ⟦<MemDevice as Device>⟧.seen self.new ≡ ⟦<MemDevice as Device>⟧.seen self.old }
         ensures crash { Among (⟦<MemDevice as Device>⟧.may_leave self.old) (⟦<MemDevice as Device>⟧.may_leave self.new) }
-        ensures time { Elapses (⟦<MemDevice as Device>⟧.moment self.old) (⟦<MemDevice as Device>⟧.moment self.new) (⟦<MemDevice as Device>⟧.left_since self.old) (⟦<MemDevice as Device>⟧.left_since self.new) (⟦<MemDevice as Device>⟧.may_leave self.new) }
+        ensures time { TimeElapses self.old self.new }
         ensures never_falls { ⟦<MemDevice as Device>⟧.fault_count self.old ≤ ⟦<MemDevice as Device>⟧.fault_count self.new }
     {
         self.note(CallKind::Size)?;
@@ -225,7 +226,7 @@ impl Device for MemDevice {
         ensures bytes { OnOk result (out.new ≡ take (length out.old) (drop at (⟦<MemDevice as Device>⟧.seen self.old))) }
         ensures seen { ⟦<MemDevice as Device>⟧.seen self.new ≡ ⟦<MemDevice as Device>⟧.seen self.old }
         ensures crash { Among (⟦<MemDevice as Device>⟧.may_leave self.old) (⟦<MemDevice as Device>⟧.may_leave self.new) }
-        ensures time { Elapses (⟦<MemDevice as Device>⟧.moment self.old) (⟦<MemDevice as Device>⟧.moment self.new) (⟦<MemDevice as Device>⟧.left_since self.old) (⟦<MemDevice as Device>⟧.left_since self.new) (⟦<MemDevice as Device>⟧.may_leave self.new) }
+        ensures time { TimeElapses self.old self.new }
         ensures never_falls { ⟦<MemDevice as Device>⟧.fault_count self.old ≤ ⟦<MemDevice as Device>⟧.fault_count self.new }
     {
         self.note(CallKind::Read { at })?;
@@ -242,7 +243,7 @@ impl Device for MemDevice {
         ensures counted { Counts (⟦<MemDevice as Device>⟧.fault_count self.old) result (⟦<MemDevice as Device>⟧.fault_count self.new) }
         ensures written { OnOk result (⟦<MemDevice as Device>⟧.seen self.new ≡ spliced (⟦<MemDevice as Device>⟧.seen self.old) at bytes.now) }
         ensures crash { Follows (Torn at (length bytes.now)) (⟦<MemDevice as Device>⟧.may_leave self.old) (⟦<MemDevice as Device>⟧.may_leave self.new) }
-        ensures time { Elapses (⟦<MemDevice as Device>⟧.moment self.old) (⟦<MemDevice as Device>⟧.moment self.new) (⟦<MemDevice as Device>⟧.left_since self.old) (⟦<MemDevice as Device>⟧.left_since self.new) (⟦<MemDevice as Device>⟧.may_leave self.new) }
+        ensures time { TimeElapses self.old self.new }
         ensures never_falls { ⟦<MemDevice as Device>⟧.fault_count self.old ≤ ⟦<MemDevice as Device>⟧.fault_count self.new }
     {
         self.change(CallKind::Write { at }, at as usize, bytes)
@@ -255,7 +256,7 @@ impl Device for MemDevice {
         ensures counted { Counts (⟦<MemDevice as Device>⟧.fault_count self.old) result (⟦<MemDevice as Device>⟧.fault_count self.new) }
         ensures written { OnOk result (⟦<MemDevice as Device>⟧.seen self.new ≡ headed (⟦<MemDevice as Device>⟧.seen self.old) bytes.now) }
         ensures crash { Follows (Whole bytes.now) (⟦<MemDevice as Device>⟧.may_leave self.old) (⟦<MemDevice as Device>⟧.may_leave self.new) }
-        ensures time { Elapses (⟦<MemDevice as Device>⟧.moment self.old) (⟦<MemDevice as Device>⟧.moment self.new) (⟦<MemDevice as Device>⟧.left_since self.old) (⟦<MemDevice as Device>⟧.left_since self.new) (⟦<MemDevice as Device>⟧.may_leave self.new) }
+        ensures time { TimeElapses self.old self.new }
         ensures never_falls { ⟦<MemDevice as Device>⟧.fault_count self.old ≤ ⟦<MemDevice as Device>⟧.fault_count self.new }
     {
         self.change(CallKind::Super, 0, bytes)
@@ -269,7 +270,7 @@ impl Device for MemDevice {
         ensures durable { OnOk result (Only (⟦<MemDevice as Device>⟧.seen self.old) (⟦<MemDevice as Device>⟧.may_leave self.new)) }
         ensures seen { ⟦<MemDevice as Device>⟧.seen self.new ≡ ⟦<MemDevice as Device>⟧.seen self.old }
         ensures crash { Among (⟦<MemDevice as Device>⟧.may_leave self.old) (⟦<MemDevice as Device>⟧.may_leave self.new) }
-        ensures time { Elapses (⟦<MemDevice as Device>⟧.moment self.old) (⟦<MemDevice as Device>⟧.moment self.new) (⟦<MemDevice as Device>⟧.left_since self.old) (⟦<MemDevice as Device>⟧.left_since self.new) (⟦<MemDevice as Device>⟧.may_leave self.new) }
+        ensures time { TimeElapses self.old self.new }
         ensures never_falls { ⟦<MemDevice as Device>⟧.fault_count self.old ≤ ⟦<MemDevice as Device>⟧.fault_count self.new }
     {
         self.note(CallKind::Sync)

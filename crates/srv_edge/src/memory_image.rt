@@ -1,5 +1,5 @@
 ghost use Rattle.std.specs.Prelude.{◌≡◌, ◌≤◌, ◌+◌, ◌^◌, if◌then◌else◌, length, replicate, IfOk, OnOk};
-ghost use Rattle.srv_edge.specs.Disk.{spliced, headed};
+ghost use Rattle.srv_edge.specs.Disk.{spliced, spliced_with, headed};
 ghost use Rattle.srv_edge.specs.Replay.{State, after_call, image_of, state_of};
 
 use crate::memory_record::{Call, CallKind};
@@ -41,7 +41,7 @@ impl Replay {
     fn write(&mut self, at: usize, bytes: &[u8], done: bool, fill: u8) -> Result<(), AllocError>
         requires { at + length bytes.now ≤ 2 ^ 35 }
         ensures seen { OnOk result (self.new.seen.items ≡ (if done then spliced self.old.seen.items at bytes.now else self.old.seen.items)) }
-        ensures image { OnOk result (self.new.image.items ≡ spliced self.old.image.items at (replicate (length bytes.now) fill)) }
+        ensures image { OnOk result (self.new.image.items ≡ spliced_with fill self.old.image.items at (replicate (length bytes.now) fill)) }
     {
         if done {
             overwrite(&mut self.seen, at, bytes)?;
@@ -81,8 +81,8 @@ fn put_head(file: &mut Vec<u8>, head: &[u8], there: bool) -> Result<(), AllocErr
     Ok(())
 }
 
-// The image after these calls where each range that is not settled holds the fill, and the heads
-// that are not settled are all there or none.
+// The image after these calls where each range that is not settled holds the fill, also between an
+// old end and a write behind it, and the heads that are not settled are all there or none.
 pub fn replayed(
     alloc: Global,
     first: &[u8],

@@ -1,5 +1,5 @@
 ghost use Rattle.std.specs.Prelude.{◌≡◌, ◌≤◌, ◌<◌, ◌+◌, ◌-◌, ◌^◌, ◌++◌, length, take, drop, replicate, vec_len, vec_capacity, OnOk, OnErr};
-ghost use Rattle.srv_edge.specs.Disk.{spliced};
+ghost use Rattle.srv_edge.specs.Disk.{spliced, spliced_with};
 
 use std::alloc::AllocError;
 
@@ -12,31 +12,31 @@ pub fn overwrite(file: &mut Vec<u8>, at: usize, bytes: &[u8]) -> Result<(), Allo
     ensures full { OnErr result (vec_capacity file.old < at + length bytes.now) }
     ensures room { vec_capacity file.old ≤ vec_capacity file.new }
 {
-    lengthen(file, at + bytes.len())?;
+    lengthen(file, at + bytes.len(), 0)?;
     put_within(file, at, bytes);
     Ok(())
 }
 
-// Writes so many bytes, all the same, over what is there and past the end.
+// Writes so many bytes, all the same, over what is there and past the end, and the same between.
 #[tactic(auto, using(crate::proofs::Padded::filled))]
 pub fn fill_range(file: &mut Vec<u8>, at: usize, n: usize, fill: u8) -> Result<(), AllocError>
     requires { at + n ≤ 2 ^ 35 }
-    ensures { OnOk result (file.new.items ≡ spliced file.old.items at (replicate n fill)) }
+    ensures { OnOk result (file.new.items ≡ spliced_with fill file.old.items at (replicate n fill)) }
 {
-    lengthen(file, at + n)?;
+    lengthen(file, at + n, fill)?;
     fill_within(file, at, n, fill);
     Ok(())
 }
 
-// Makes the file so long at least, with zeros.
-fn lengthen(file: &mut Vec<u8>, end: usize) -> Result<(), AllocError>
-    ensures ok { OnOk result (file.new.items ≡ file.old.items ++ replicate (end - length file.old.items) 0) }
+// Makes the file so long at least, with the fill.
+fn lengthen(file: &mut Vec<u8>, end: usize, fill: u8) -> Result<(), AllocError>
+    ensures ok { OnOk result (file.new.items ≡ file.old.items ++ replicate (end - length file.old.items) fill) }
     ensures err { OnErr result (file.new.items ≡ file.old.items) }
     ensures full { OnErr result (vec_capacity file.old < end) }
     ensures room { vec_capacity file.old ≤ vec_capacity file.new }
 {
     if file.len() < end {
-        file.resize(end, 0)?;
+        file.resize(end, fill)?;
     }
     Ok(())
 }

@@ -49,10 +49,10 @@ fn device_of(alloc: Global, fail: &[u32]) -> Result<MemDevice, AllocError> {
 const IMAGES: [(u8, u8, &[u8]); 13] = [
     (b'h', b'h', b"abcd"),
     (b'h', b'h', b"a??d"),
-    (b'h', b'h', b"a??d\0??"),
-    (b'h', b'h', b"a??d\0??"),
-    (b'h', b's', b"a??d\0??"),
-    (b'h', b's', b"???d\0??"),
+    (b'h', b'h', b"a??d???"),
+    (b'h', b'h', b"a??d???"),
+    (b'h', b's', b"a??d???"),
+    (b'h', b's', b"???d???"),
     (b's', b's', b"aXYd\0PQ"),
     (b's', b't', b"aXYd\0PQ"),
     (b's', b't', b"aXYd\0PQ"),
@@ -119,18 +119,22 @@ fn kinds_of_the_calls(rt: HostRuntime) -> Result<(), Fail> {
     Ok(())
 }
 
-// Where one call is told to fail it alone fails, and each is kept.
+// Where one call is to fail it alone fails, and each is kept.
 #[test]
 fn each_call_failing_in_turn(rt: HostRuntime) -> Result<(), Fail> {
-    for told in 0..12 {
-        let mut device = device_of(rt.alloc(), &[told])?;
+    for failing in 0..12 {
+        let mut device = device_of(rt.alloc(), &[failing])?;
         let ok = make_calls(&mut device);
         for (call, ok) in (0..).zip(ok) {
-            let unasked = told == 7 && call == 8;
-            assert_eq!(rt; ok, call != told && !unasked, "{call} where {told} fails");
+            let unasked = failing == 7 && call == 8;
+            assert_eq!(rt;
+                ok,
+                call != failing && !unasked,
+                "{call} where {failing} fails"
+            );
         }
         assert_eq!(rt; device.faults(), 1);
-        assert_eq!(rt; device.calls(), if told == 7 { 11 } else { 12 });
+        assert_eq!(rt; device.calls(), if failing == 7 { 11 } else { 12 });
     }
     Ok(())
 }

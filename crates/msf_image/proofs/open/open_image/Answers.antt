@@ -1,8 +1,11 @@
-use Rattle.std.proofs.Common.{ℕ, Vec, Global, ap, subst, sym, ◌∙◌}
+use Rattle.std.proofs.Common.{◌≡◌, ℕ, false, All, OnOk, Vec, Global, ap, subst, sym, ◌∙◌}
+use Rattle.free_page_maps.specs.FreeBlocks.{is_free}
+use Rattle.stream_directory.specs.Directory.{IsDirectory}
+use Rattle.msf_image.specs.declared.image.Image.{Image}
 use Rattle.msf_image.specs.Reads.{Tells, used_blocks, with_free}
 use Rattle.msf_image.proofs.Directories.{done}
 use Rattle.msf_image.proofs.Moments.{reads_on}
-use Rattle.msf_image.proofs.Opening.{at_free, at_listed, at_streams, at_superblock, told_on}
+use Rattle.msf_image.proofs.Opening.{at_free, at_listed, at_streams, at_superblock, told_on, whole_judged}
 use Rattle.msf_image.proofs.open.open_image.Goals as goal
 
 pub returns-in_err-head-clause-reads : goal.returns-in_err-head-clause-reads
@@ -22,6 +25,15 @@ returns-clause-reads g c = λ tells.
     subst (Tells (λ image. image) c.judge_used.result) (sym (at_free _ _ _ _ _ _ _ _ _ c.in_ok-head.ensures.seen c.in_ok-listed.ensures.seen c.in_ok-directory.ensures.seen (c.in_ok-head.ensures.reads tells)
     (c.in_ok-listed.ensures.reads tells ∙ ap done (sym c.deref.ensures.value)) (c.in_ok-directory.ensures.reads tells) (c.in_ok-free.ensures.reads tells)))
     (subst (λ l. Tells (λ image. image) c.judge_used.result (with_free (used_blocks l c.in_ok-directory.directory) (record { head = c.in_ok-head.head; directory = c.in_ok-directory.directory; free = c.in_ok-free.free }))) (c.deref-2.ensures.value ∙ sym c.deref.ensures.value) c.judge_used.ensures.told)
+
+pub returns-clause-whole : goal.returns-clause-whole
+returns-clause-whole g c =
+    let image : Image = record { head = c.in_ok-head.head; directory = c.in_ok-directory.directory; free = c.in_ok-free.free } in
+    let listed = c.in_ok-listed.ensures in
+    let free = c.in_ok-free.ensures in
+    let directory = subst (λ l. IsDirectory c.in_ok-head.head l c.in_ok-directory.directory) c.deref.ensures.value c.in_ok-directory.ensures.found in
+    let none_free = subst (λ l. OnOk c.judge_used.result (All (λ b. is_free c.in_ok-free.free b ≡ false) (used_blocks l c.in_ok-directory.directory))) c.deref-2.ensures.value c.judge_used.ensures.none_free in
+    whole_judged c.judge_used.result image _ c.in_ok-head.ensures.passes listed.block_map listed.count listed.usable directory free.blocks free.inside free.unreserved c.judge_used.ensures.same none_free
 
 pub returns-clause-any_moment : goal.returns-clause-any_moment
 returns-clause-any_moment g c =

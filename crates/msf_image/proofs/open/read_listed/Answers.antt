@@ -1,6 +1,8 @@
-use Rattle.std.proofs.Common.{◌<◌, All, ap, subst, ◌∙◌}
+use Rattle.std.proofs.Common.{◌<◌, [], All, ap, subst, ◌∙◌}
+use Rattle.stream_directory.specs.Directory.{AreUsable}
+use Rattle.stream_directory.proofs.Streams.{usable_from_none}
 use Rattle.msf_image.proofs.Directories.{done}
-use Rattle.msf_image.proofs.Listed.{listed_err, listed_inside, listed_ok}
+use Rattle.msf_image.proofs.Listed.{listed_behind, listed_err, listed_inside, listed_ok}
 use Rattle.msf_image.proofs.open.read_listed.Goals as goal
 
 pub returns-in_err-judge-clause-reads : goal.returns-in_err-judge-clause-reads
@@ -10,6 +12,13 @@ returns-in_err-judge-clause-reads g c = λ tells.
 pub returns-clause-used : goal.returns-clause-used
 returns-clause-used g c =
     subst (All (λ b. b < c.args.head.now.blocks)) c.deref-2.ensures.value (listed_inside c.args.head.now c.deref-2.result.now c.in_ok-judge.ensures)
+
+pub returns-clause-usable : goal.returns-clause-usable
+returns-clause-usable g c =
+    subst (AreUsable c.args.head.now []) c.deref-2.ensures.value (usable_from_none c.args.head.now [] c.deref-2.result.now c.in_ok-judge.ensures)
+
+pub returns-clause-block_map : goal.returns-clause-block_map
+returns-clause-block_map g c = listed_behind c.args.head.now.map_addr _ _ c.in_ok-listed.ensures.listed
 
 pub returns-clause-reads : goal.returns-clause-reads
 returns-clause-reads g c = λ tells.

@@ -26,5 +26,5 @@ pub returns-clause-kept : goal.returns-clause-kept
 returns-clause-kept c =
     let before = c.prepare.new.self.calls.items in
     let is : c.push.new.self.items ≡ before ++ c.in_ok-call.call ∷ [] = if_ok c.push.result _ _ _ (c.push.ensures.succeeds c.in_ok-call.ensures.room) c.push.ensures.items in
-    let told = ap not (sym c.is_told.ensures ∙ c.if-is_told.false) in
-    (adds_pushed c.args.self.now.calls.items before c.push.new.self.items c.in_ok-call.call c.args.kind c.args.bytes.now true c.prepare.ensures.calls is c.in_ok-call.ensures.kind c.in_ok-call.ensures.bytes c.in_ok-call.ensures.done, told)
+    let asked = ap not (sym c.is_to_fail.ensures ∙ c.if-is_to_fail.false) in
+    (adds_pushed c.args.self.now.calls.items before c.push.new.self.items c.in_ok-call.call c.args.kind c.args.bytes.now true c.prepare.ensures.calls is c.in_ok-call.ensures.kind c.in_ok-call.ensures.bytes c.in_ok-call.ensures.done, asked)
