@@ -10,7 +10,7 @@ use Rattle.call_journal.proofs.Decoding.{is_deed}
 use Rattle.record_table.specs.Table as records
 use Rattle.names_table.specs.Names as strings
 use Rattle.core_model.specs.Tables.{Tables}
-use Rattle.core_model.specs.History.{IsLegal, IsStart, age_of, opened_tables, table_of}
+use Rattle.core_model.specs.History.{IsLegal, IsStart, age_of, opened_tables, limited_table}
 use Rattle.core_model.specs.Cuts.{BeganAt, Cut, IsAllowed, cut_at, opened}
 use Rattle.core_model.specs.World.{basis_of}
 use Rattle.core_model.proofs.Answered.{IsWithin, names_of, within_opened}
@@ -63,7 +63,7 @@ made t t' i i' n n' p q r = cc
 same_tables : (b : Basis) (c : Cut) (others : List ℕ) → IsWithin b c.tables → opened_tables (basis_of b c others) ≡ c.tables
 same_tables b c others w =
     let x = c.tables in
-    made (table_of b x.types.records) x.types (table_of b x.items.records) x.items (names_of b x.names.names) x.names (sym w.types) (sym w.items) (sym w.names)
+    made (limited_table b x.types.records) x.types (limited_table b x.items.records) x.items (names_of b x.names.names) x.names (sym w.types) (sym w.items) (sym w.names)
 
 pub opens_cut : (b : Basis) (c : Cut) (others : List ℕ) → IsWithin b c.tables → opened (basis_of b c others) ≡ c
 opens_cut b c others w = ap (λ (x : Tables). record { number = c.number; tables = x }) (same_tables b c others w)

@@ -17,7 +17,7 @@ use Rattle.turnstile.specs.declared.history.Basis.{Basis}
 use Rattle.call_journal.specs.declared.deed.TableKind.{TableKind}
 use Rattle.call_journal.specs.declared.deed.TableKind.TheVariants.{Types, Items, Names}
 use Rattle.core_model.specs.Tables.{Tables, answer_of_add, answer_of_name, answer_to_bytes, answer_to_leaf, answer_to_name, answer_to_record, item_count, table_after, type_count}
-use Rattle.core_model.specs.History.{IsAnswered, IsStart, WithinLimits, most_name_bytes, names_version, opened_tables, table_of, with_added}
+use Rattle.core_model.specs.History.{IsAnswered, IsStart, WithinLimits, most_name_bytes, names_version, opened_tables, limited_table, with_added}
 use Rattle.core_model.proofs.Records as record_lemmas
 use Rattle.core_model.proofs.Strings as string_lemmas
 
@@ -76,8 +76,8 @@ names_of b list = record { max_bytes = most_name_bytes b; version = names_versio
 
 -- the tables have the limits of the basis, and are within them
 pub record IsWithin (b : Basis) (x : Tables) : Type 0 where
-  pub types : x.types ≡ table_of b x.types.records
-  pub items : x.items ≡ table_of b x.items.records
+  pub types : x.types ≡ limited_table b x.types.records
+  pub items : x.items ≡ limited_table b x.items.records
   pub names : x.names ≡ names_of b x.names.names
   pub few_types : WithinLimits x.types
   pub few_items : WithinLimits x.items
@@ -86,9 +86,9 @@ pub record IsWithin (b : Basis) (x : Tables) : Type 0 where
 pub within_opened : (b : Basis) → IsStart b → IsWithin b (opened_tables b)
 within_opened b s = record { types = refl; items = refl; names = refl; few_types = s.types; few_items = s.items; few_names = s.names }
 
-limits_kept : (b : Basis) (t : records.Table) (at : ℕ) (r : List ℕ) → t ≡ table_of b t.records → record_lemmas.grown t at r ≡ table_of b (record_lemmas.grown t at r).records
+limits_kept : (b : Basis) (t : records.Table) (at : ℕ) (r : List ℕ) → t ≡ limited_table b t.records → record_lemmas.grown t at r ≡ limited_table b (record_lemmas.grown t at r).records
 limits_kept b t at r e = go (at == records.index_at (length t.records)) where
-  go : (c : Bool) → cond c (records.appended t r) t ≡ table_of b (cond c (records.appended t r) t).records
+  go : (c : Bool) → cond c (records.appended t r) t ≡ limited_table b (cond c (records.appended t r) t).records
   go true = ap (λ z. records.appended z r) e
   go false = e
 

@@ -11,37 +11,37 @@ use Rattle.call_journal.specs.declared.deed.Deed.TheVariants.{Ended}
 use Rattle.call_journal.specs.Words.{deed_of}
 use Rattle.core_model.specs.History.{Fits, IsLegal, Standing, after_entry, standing}
 use Rattle.core_model.specs.Cuts.{BeganAt, Cut, IsAllowed}
-use Rattle.core_model.specs.World.{Commit, DeviceCall, File, MayLeave, Phase, Progress, View, Which, left, progress, sure, resolved, with_view}
-use Rattle.core_model.specs.World.{settled, doubt, older, pending, resolving, resolving_sync, writing, switching, switching_sync, done, failed, write, write_super, sync}
+use Rattle.core_model.specs.Files.{Commit, DeviceCall, File, MayLeave, Phase, Progress, Which, done, doubt, failed, left, older, pending, progress, resolved, resolving, resolving_sync, settled, sure, switching, switching_sync, sync, write, write_super, writing}
+use Rattle.core_model.specs.Passes.{Knowledge, with_view}
 use Rattle.core_model.proofs.Allowed.{allowed_more, began_more}
 use Rattle.core_model.proofs.Growing.{legal_more, standing_more}
 
 -- views
 
 -- what a caller has seen begins the history, and its own calls are those of its number
-pub record IsInformed (h : List Entry) (c : ℕ) (v : View) : Type 0 where
+pub record IsInformed (h : List Entry) (c : ℕ) (v : Knowledge) : Type 0 where
   pub seen : Begins v.seen h
   pub mine : v.mine ≡ calls_by c v.seen
   pub once : v.mine ≡ calls_by c h
 
 -- the history is legal, and each caller is informed of it
-pub record IsKept (b : Basis) (h : List Entry) (views : ℕ → View) : Type 0 where
+pub record IsKept (b : Basis) (h : List Entry) (views : ℕ → Knowledge) : Type 0 where
   pub legal : IsLegal b h
   pub each : (c : ℕ) → IsInformed h c (views c)
 
-pub changed_view : (P : ℕ → View → Type 0) (views : ℕ → View) (c : ℕ) (v : View) → P c v → ((d : ℕ) → d ≢ c → P d (views d)) → (d : ℕ) → P d (with_view views c v d)
+pub changed_view : (P : ℕ → Knowledge → Type 0) (views : ℕ → Knowledge) (c : ℕ) (v : Knowledge) → P c v → ((d : ℕ) → d ≢ c → P d (views d)) → (d : ℕ) → P d (with_view views c v d)
 changed_view P views c v here others d = go (eqb d c) refl where
   go : (t : Bool) → eqb d c ≡ t → P d (cond t v (views d))
   go true e = subst (λ z. P z v) (sym (eqb-true d c e)) here
   go false e = others d (eqb-false d c e)
 
-pub kept_looked : (b : Basis) (h : List Entry) (views : ℕ → View) (c : ℕ) → IsKept b h views → IsKept b h (with_view views c (record { seen = h; mine = (views c).mine }))
+pub kept_looked : (b : Basis) (h : List Entry) (views : ℕ → Knowledge) (c : ℕ) → IsKept b h views → IsKept b h (with_view views c (record { seen = h; mine = (views c).mine }))
 kept_looked b h views c k = record {
   legal = k.legal;
   each = changed_view (IsInformed h) views c (record { seen = h; mine = (views c).mine }) (record { seen = begins_self h; mine = (k.each c).once; once = (k.each c).once }) (λ d other. k.each d);
 }
 
-pub kept_filed : (b : Basis) (h : List Entry) (views : ℕ → View) (c : ℕ) (e : Entry) → caller e ≡ c → Fits (standing b h) e → IsKept b h views →
+pub kept_filed : (b : Basis) (h : List Entry) (views : ℕ → Knowledge) (c : ℕ) (e : Entry) → caller e ≡ c → Fits (standing b h) e → IsKept b h views →
     IsKept b (h ++ e ∷ []) (with_view views c (record { seen = h ++ e ∷ []; mine = (views c).mine ++ e ∷ [] }))
 kept_filed b h views c e own fits k = record {
   legal = legal_more b h e k.legal fits;

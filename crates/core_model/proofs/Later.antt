@@ -1,33 +1,53 @@
 -- What the callers have seen and what the file may hold, from one event to the next.
-use Rattle.std.proofs.Common.{◌≡◌, ◌≢◌, ◌-◌, ◌^◌, ◌==◌, ℕ, Bool, true, false, cond, ltb, [], ◌∷◌, ◌++◌, Option, Some, None, refl, sym, subst}
+use Rattle.std.proofs.Common.{◌≡◌, ◌≢◌, ◌-◌, ◌^◌, ◌==◌, ℕ, Bool, true, cond, ltb, [], ◌∷◌, ◌++◌, Option, Some, None, refl, sym, subst}
 use Rattle.std.specs.Prelude.{◌&&◌, is_none}
 use Rattle.turnstile.specs.declared.history.Entry.{Entry}
 use Rattle.turnstile.specs.Histories.{Begins}
 use Rattle.turnstile.proofs.Beginnings.{begins_more, begins_self}
 use Rattle.core_model.specs.Calls.{answer, is_call}
 use Rattle.core_model.specs.Cuts.{Cut}
-use Rattle.core_model.specs.World.{Commit, DeviceCall, Event, MayLeave, Phase, Progress, World, begun, called, ended, ended_in, entry_of_call, filed, filed_or_looked, is_pass, looked, number_now, progress, progressed, refused_commit, run, step, step_from, tables_now, worked}
-use Rattle.core_model.specs.World.{resolving, resolving_sync, writing, switching, switching_sync, done, failed, sync, calls, asks_commit, begins, calls_device, ends, dies, crashes, reopens}
+use Rattle.core_model.specs.Entries.{entry_of_call}
+use Rattle.core_model.specs.Events.{Event, asks_commit, begins, calls, calls_device, crashes, dies, ends, reopens}
+use Rattle.core_model.specs.Files.{Commit, DeviceCall, MayLeave, Phase, Progress, done, failed, progress, resolving, resolving_sync, switching, switching_sync, sync, writing}
+use Rattle.core_model.specs.Passes.{is_pass}
+use Rattle.core_model.specs.World.{World, begun, called, ended, ended_in, filed, filed_or_looked, looked, number_now, progressed, refused_commit, run, step, step_from, tables_now, worked}
 use Rattle.core_model.proofs.Holding.{IsUnderWay, changed_view, is_progress}
-use Rattle.core_model.proofs.Running.{Holds, under_way}
+use Rattle.core_model.proofs.Running.{Holds, chosen, under_way}
 
--- each caller has seen what it had seen, and maybe more; and the file is the same
+-- the basis is the same, and the history is what it was, and maybe more, and so is what each caller has seen
+pub record IsLonger (w v : World) : Type 0 where
+  pub basis : v.basis ≡ w.basis
+  pub grows : Begins w.history v.history
+  pub seen : (c : ℕ) → Begins (w.views c).seen (v.views c).seen
+
+longer_self : (w : World) → IsLonger w w
+longer_self w = record { basis = refl; grows = begins_self w.history; seen = λ c. begins_self (w.views c).seen }
+
+-- and the file is the same
 record IsLater (w v : World) : Type 0 where
-  seen : (c : ℕ) → Begins (w.views c).seen (v.views c).seen
+  longer : IsLonger w v
   file : v.file ≡ w.file
 
 later_self : (w : World) → IsLater w w
-later_self w = record { seen = λ c. begins_self (w.views c).seen; file = refl }
+later_self w = record { longer = longer_self w; file = refl }
 
 later_looked : (w : World) (c : ℕ) → Holds w → IsLater w (looked w c)
 later_looked w c h = record {
-  seen = changed_view (λ d v. Begins (w.views d).seen v.seen) w.views c (record { seen = w.history; mine = (w.views c).mine }) (h.kept.each c).seen (λ d other. begins_self (w.views d).seen);
+  longer = record {
+    basis = refl;
+    grows = begins_self w.history;
+    seen = changed_view (λ d v. Begins (w.views d).seen v.seen) w.views c (record { seen = w.history; mine = (w.views c).mine }) (h.kept.each c).seen (λ d other. begins_self (w.views d).seen);
+  };
   file = refl;
 }
 
 later_filed : (w : World) (c : ℕ) (e : Entry) → Holds w → IsLater w (filed w c e)
 later_filed w c e h = record {
-  seen = changed_view (λ d v. Begins (w.views d).seen v.seen) w.views c (record { seen = w.history ++ e ∷ []; mine = (w.views c).mine ++ e ∷ [] }) (begins_more (w.views c).seen w.history e (h.kept.each c).seen) (λ d other. begins_self (w.views d).seen);
+  longer = record {
+    basis = refl;
+    grows = begins_more w.history w.history e (begins_self w.history);
+    seen = changed_view (λ d v. Begins (w.views d).seen v.seen) w.views c (record { seen = w.history ++ e ∷ []; mine = (w.views c).mine ++ e ∷ [] }) (begins_more (w.views c).seen w.history e (h.kept.each c).seen) (λ d other. begins_self (w.views d).seen);
+  };
   file = refl;
 }
 
@@ -36,15 +56,15 @@ later_called w c None h = later_looked w c h
 later_called w c (Some e) h = later_filed w c e h
 
 later_refused : (w : World) (c : ℕ) (o : Option Commit) → Holds w → IsLater w (refused_commit w c o)
-later_refused w c None h = later_self w
+later_refused w c None h = later_looked w c h
 later_refused w c (Some k) h = later_filed w c _ h
 
 later_begun : (w : World) (c : ℕ) → Holds w → IsLater w (begun w c)
-later_begun w c h = let l = later_filed w c _ h in record { seen = l.seen; file = refl }
+later_begun w c h = let l = later_filed w c _ h in record { longer = record { basis = refl; grows = l.longer.grows; seen = l.longer.seen }; file = refl }
 
 later_ended_in : (w : World) (k : Commit) (phase : Phase) → Holds w → IsLater w (ended_in w k phase)
-later_ended_in w k done h = let l = later_filed w k.caller _ h in record { seen = l.seen; file = refl }
-later_ended_in w k failed h = let l = later_filed w k.caller _ h in record { seen = l.seen; file = refl }
+later_ended_in w k done h = let l = later_filed w k.caller _ h in record { longer = record { basis = refl; grows = l.longer.grows; seen = l.longer.seen }; file = refl }
+later_ended_in w k failed h = let l = later_filed w k.caller _ h in record { longer = record { basis = refl; grows = l.longer.grows; seen = l.longer.seen }; file = refl }
 later_ended_in w k resolving h = later_self w
 later_ended_in w k resolving_sync h = later_self w
 later_ended_in w k writing h = later_self w
@@ -52,14 +72,13 @@ later_ended_in w k switching h = later_self w
 later_ended_in w k switching_sync h = later_self w
 
 later_if : (t : Bool) (v w : World) → IsLater w v → IsLater w (cond t v w)
-later_if true v w l = l
-later_if false v w l = later_self w
+later_if t v w l = chosen (IsLater w) t v w (λ on. l) (later_self w)
 
 later_ended : (w : World) (c : ℕ) (o : Option Commit) → Holds w → IsLater w (ended w c o)
 later_ended w c None h = later_self w
 later_ended w c (Some k) h = later_if (k.caller == c) (ended_in w k k.phase) w (later_ended_in w k k.phase h)
 
--- the views alone
+-- the views and the history alone
 seen_progressed : (w : World) (k : Commit) (o : Option Progress) → (progressed w k o).views ≡ w.views
 seen_progressed w k None = refl
 seen_progressed w k (Some p) = refl
@@ -68,19 +87,27 @@ pub seen_worked : (w : World) (o : Option Commit) (call : DeviceCall) (ok : Bool
 seen_worked w None call ok = refl
 seen_worked w (Some k) call ok = seen_progressed w k (progress k.cut w.file k.phase call ok)
 
-order_run : (w : World) (event : Event) (c : ℕ) → Holds w → Begins (w.views c).seen ((run w event).views c).seen
-order_run w (calls d call) c h = (later_if (is_pass d && is_call call) (called w d call) w (later_called w d (entry_of_call d call (answer (tables_now w) call)) h)).seen c
-order_run w (asks_commit d) c h = (later_if (is_pass d) (refused_commit w d w.commit) w (later_refused w d w.commit h)).seen c
-order_run w (begins d) c h = (later_if (is_pass d && is_none w.commit && ltb (number_now w) (2 ^ 32 - 1)) (begun w d) w (later_begun w d h)).seen c
-order_run w (calls_device call ok) c h = subst (λ views. Begins (w.views c).seen (views c).seen) (sym (seen_worked w w.commit call ok)) (begins_self (w.views c).seen)
-order_run w (ends d) c h = (later_ended w d w.commit h).seen c
-order_run w (dies d) c h = begins_self (w.views c).seen
-order_run w (crashes which) c h = begins_self (w.views c).seen
-order_run w (reopens others) c h = begins_self (w.views c).seen
+longer_progressed : (w : World) (k : Commit) (o : Option Progress) → IsLonger w (progressed w k o)
+longer_progressed w k None = longer_self w
+longer_progressed w k (Some p) = record { basis = refl; grows = begins_self w.history; seen = λ c. begins_self (w.views c).seen }
 
--- what a caller has seen begins what it sees behind an event
-pub in_order : (w : World) (event : Event) (c : ℕ) → w.crash ≡ None → Holds w → Begins (w.views c).seen ((step w event).views c).seen
-in_order w event c up h = subst (λ o. Begins (w.views c).seen ((step_from o w event).views c).seen) (sym up) (order_run w event c h)
+longer_worked : (w : World) (o : Option Commit) (call : DeviceCall) (ok : Bool) → IsLonger w (worked w o call ok)
+longer_worked w None call ok = longer_self w
+longer_worked w (Some k) call ok = longer_progressed w k (progress k.cut w.file k.phase call ok)
+
+longer_run : (w : World) (event : Event) → Holds w → IsLonger w (run w event)
+longer_run w (calls d call) h = (later_if (is_pass d && is_call call) (called w d call) w (later_called w d (entry_of_call d call (answer (tables_now w) call)) h)).longer
+longer_run w (asks_commit d) h = (later_if (is_pass d) (refused_commit w d w.commit) w (later_refused w d w.commit h)).longer
+longer_run w (begins d) h = (later_if (is_pass d && is_none w.commit && ltb (number_now w) (2 ^ 32 - 1)) (begun w d) w (later_begun w d h)).longer
+longer_run w (calls_device call ok) h = longer_worked w w.commit call ok
+longer_run w (ends d) h = (later_ended w d w.commit h).longer
+longer_run w (dies d) h = longer_self w
+longer_run w (crashes which) h = record { basis = refl; grows = begins_self w.history; seen = λ c. begins_self (w.views c).seen }
+longer_run w (reopens others) h = longer_self w
+
+-- the history and what a caller has seen begin what they are behind an event
+pub longer : (w : World) (event : Event) → w.crash ≡ None → Holds w → IsLonger w (step w event)
+longer w event up h = subst (λ o. IsLonger w (step_from o w event)) (sym up) (longer_run w event h)
 
 -- the file
 

@@ -20,7 +20,7 @@ use Rattle.core_model.specs.declared.passed.CommitOpen.{CommitOpen}
 use Rattle.core_model.specs.declared.passed.Passed.{Passed}
 use Rattle.core_model.specs.Tables.{Tables, item_count, type_count}
 use Rattle.core_model.specs.Cuts.{Extends, StartsWith}
-use Rattle.core_model.specs.History.{DeedFits, IsFull, IsLegal, NamesNothing, OpenCommit, Standing, after, after_deed, after_entry, standing, with_added}
+use Rattle.core_model.specs.History.{DeedFits, IsRefusedFull, IsLegal, NamesNothing, OpenCommit, Standing, after, after_deed, after_entry, standing, with_added}
 use Rattle.core_model.specs.Replay.{LeadsToTheEnd, Lists, behind_all, behind_deed, count_with, counts_of, holds_records, is_end, is_limit_of, is_next, is_open, is_open_number, lists_of, names_nothing, place_fits, place_of_index, place_of_offset, started, words_of}
 use Rattle.core_model.proofs.Answered.{added_items, added_names, added_types, is_taken, name_is_taken}
 use Rattle.core_model.proofs.Counting.{some-bytes}
@@ -135,7 +135,7 @@ nothing_there s p Items table index a none other =
     ap (λ b. b && holds_records table) (not_below index (records.index_at p.items) (omega (arith, a.items, none))) ∙ of_records table other
 nothing_there s p Names table index a none other = absurd none
 
-full_there : (x : Tables) (table : TableKind) (l : Limit) (size : ℕ) → IsFull x table l size → is_limit_of table l ≡ true
+full_there : (x : Tables) (table : TableKind) (l : Limit) (size : ℕ) → IsRefusedFull x table l size → is_limit_of table l ≡ true
 full_there x Types limit.Records size f = refl
 full_there x Types limit.Bytes size f = refl
 full_there x Types limit.Names size f = absurd f
@@ -207,7 +207,7 @@ leads_on b h legal before (e ∷ rest) there p a =
     let more = standing_more b before e in
     let extends : Extends (after b (before ++ e ∷ [])) (after b h) = subst (λ z. Extends (after b (before ++ e ∷ [])) (after b z)) (sym on) (extends_history b (before ++ e ∷ []) rest) in
     let one : Step (lists_of (after b h)) (after_entry (standing b before) e) p (caller e) (deed_of e.word) =
-    step (standing b before) p (caller e) (deed_of e.word) e.brought (after b h) (legal.fits before e rest there).1 a (subst (λ (z : Standing). Extends z.tables (after b h)) more extends) in
+    step (standing b before) p (caller e) (deed_of e.word) e.brought (after b h) (legal.fits before e rest there).deed a (subst (λ (z : Standing). Extends z.tables (after b h)) more extends) in
     let others = leads_on b h legal (before ++ e ∷ []) rest on one.further (subst (λ z. Agrees z one.further) (sym more) one.agrees) in
     record {
       last = others.last;

@@ -14,6 +14,7 @@ mod Holding
 mod Running
 mod Later
 mod Own
+mod Committing
 pub mod Replying
 pub mod Acknowledging
 pub mod Extending

@@ -1,5 +1,5 @@
 -- What a call does for the pass that makes it, and what an event leaves to all others.
-use Rattle.std.proofs.Common.{◌≡◌, ◌≢◌, ◌-◌, ◌^◌, ◌==◌, ℕ, Bool, true, false, cond, ltb, [], ◌∷◌, ◌++◌, Option, Some, None, refl, sym, ap, ◌∙◌, subst}
+use Rattle.std.proofs.Common.{◌≡◌, ◌≢◌, ◌-◌, ◌^◌, ◌==◌, ℕ, Bool, true, cond, ltb, [], ◌∷◌, ◌++◌, Option, Some, None, refl, sym, ap, ◌∙◌, subst}
 use Rattle.std.specs.Prelude.{◌&&◌, is_none}
 use Rattle.std.specs.Option.{option_to_list}
 use Rattle.std.proofs.lemmas.Bool.{and_from, eq-eqb, eqb-true, ne_eqb}
@@ -8,13 +8,17 @@ use Rattle.turnstile.specs.declared.history.Entry.{Entry}
 use Rattle.core_model.specs.declared.call.Call.{Call}
 use Rattle.core_model.specs.Calls.{answer, is_call}
 use Rattle.core_model.specs.Law.{entries_of}
-use Rattle.core_model.specs.World.{Commit, Event, Phase, View, World, begun, called, ended, ended_in, entry_of_call, filed, filed_or_looked, is_pass, number_now, refused_commit, run, step, step_from, tables_now, whose, with_view}
-use Rattle.core_model.specs.World.{resolving, resolving_sync, writing, switching, switching_sync, done, failed, calls, asks_commit, begins, calls_device, ends, dies, crashes, reopens}
+use Rattle.core_model.specs.Entries.{entry_of_call}
+use Rattle.core_model.specs.Events.{Event, asks_commit, begins, calls, calls_device, crashes, dies, ends, reopens, whose}
+use Rattle.core_model.specs.Files.{Commit, Phase, done, failed, resolving, resolving_sync, switching, switching_sync, writing}
+use Rattle.core_model.specs.Passes.{Knowledge, is_pass, with_view}
+use Rattle.core_model.specs.World.{World, begun, called, ended, ended_in, filed, filed_or_looked, number_now, refused_commit, run, step, step_from, tables_now}
 use Rattle.core_model.proofs.Later.{seen_worked}
+use Rattle.core_model.proofs.Running.{chosen}
 
 -- a call of a pass
 
-own_view : (views : ℕ → View) (c : ℕ) (v : View) → with_view views c v c ≡ v
+own_view : (views : ℕ → Knowledge) (c : ℕ) (v : Knowledge) → with_view views c v c ≡ v
 own_view views c v = ap (λ t. cond t v (views c)) (eq-eqb c c refl)
 
 step_called : (w : World) (c : ℕ) (call : Call) → w.crash ≡ None → is_pass c ≡ true → is_call call ≡ true → step w (calls c call) ≡ called w c call
@@ -25,12 +29,12 @@ filed_history w c None = sym (append-nil w.history)
 filed_history w c (Some e) = refl
 
 filed_mine : (w : World) (c : ℕ) (o : Option Entry) → ((filed_or_looked w c o).views c).mine ≡ (w.views c).mine ++ option_to_list o
-filed_mine w c None = ap (λ (v : View). v.mine) (own_view w.views c (record { seen = w.history; mine = (w.views c).mine })) ∙ sym (append-nil (w.views c).mine)
-filed_mine w c (Some e) = ap (λ (v : View). v.mine) (own_view w.views c (record { seen = w.history ++ e ∷ []; mine = (w.views c).mine ++ e ∷ [] }))
+filed_mine w c None = ap (λ (v : Knowledge). v.mine) (own_view w.views c (record { seen = w.history; mine = (w.views c).mine })) ∙ sym (append-nil (w.views c).mine)
+filed_mine w c (Some e) = ap (λ (v : Knowledge). v.mine) (own_view w.views c (record { seen = w.history ++ e ∷ []; mine = (w.views c).mine ++ e ∷ [] }))
 
-filed_seen : (w : World) (c : ℕ) (o : Option Entry) → ((filed_or_looked w c o).views c).seen ≡ (filed_or_looked w c o).history
-filed_seen w c None = ap (λ (v : View). v.seen) (own_view w.views c (record { seen = w.history; mine = (w.views c).mine }))
-filed_seen w c (Some e) = ap (λ (v : View). v.seen) (own_view w.views c (record { seen = w.history ++ e ∷ []; mine = (w.views c).mine ++ e ∷ [] }))
+pub filed_seen : (w : World) (c : ℕ) (o : Option Entry) → ((filed_or_looked w c o).views c).seen ≡ (filed_or_looked w c o).history
+filed_seen w c None = ap (λ (v : Knowledge). v.seen) (own_view w.views c (record { seen = w.history; mine = (w.views c).mine }))
+filed_seen w c (Some e) = ap (λ (v : Knowledge). v.seen) (own_view w.views c (record { seen = w.history ++ e ∷ []; mine = (w.views c).mine ++ e ∷ [] }))
 
 pub answered : (w : World) (c : ℕ) (call : Call) → w.crash ≡ None → is_pass c ≡ true → is_call call ≡ true → (step w (calls c call)).history ≡ w.history ++ entries_of w c call
 answered w c call up pass is = ap (λ (v : World). v.history) (step_called w c call up pass is) ∙ filed_history w c (entry_of_call c call (answer (tables_now w) call))
@@ -43,7 +47,7 @@ sees w c call up pass is = subst (λ (v : World). (v.views c).seen ≡ v.history
 
 -- all others
 
-other_view : (views : ℕ → View) (c : ℕ) (v : View) (d : ℕ) → c ≢ d → with_view views c v d ≡ views d
+other_view : (views : ℕ → Knowledge) (c : ℕ) (v : Knowledge) (d : ℕ) → c ≢ d → with_view views c v d ≡ views d
 other_view views c v d other = ap (λ t. cond t v (views d)) (ne_eqb d c (λ same. other (sym same)))
 
 others_filed : (w : World) (c : ℕ) (e : Entry) (d : ℕ) → c ≢ d → (filed w c e).views d ≡ w.views d
@@ -54,7 +58,7 @@ others_called w c None d other = other_view w.views c (record { seen = w.history
 others_called w c (Some e) d other = others_filed w c e d other
 
 others_refused : (w : World) (c : ℕ) (o : Option Commit) (d : ℕ) → c ≢ d → (refused_commit w c o).views d ≡ w.views d
-others_refused w c None d other = refl
+others_refused w c None d other = other_view w.views c (record { seen = w.history; mine = (w.views c).mine }) d other
 others_refused w c (Some k) d other = others_filed w c _ d other
 
 others_ended_in : (w : World) (k : Commit) (phase : Phase) (d : ℕ) → k.caller ≢ d → (ended_in w k phase).views d ≡ w.views d
@@ -67,8 +71,7 @@ others_ended_in w k switching d other = refl
 others_ended_in w k switching_sync d other = refl
 
 others_if : (t : Bool) (v w : World) (d : ℕ) → (t ≡ true → v.views d ≡ w.views d) → (cond t v w).views d ≡ w.views d
-others_if true v w d same = same refl
-others_if false v w d same = refl
+others_if t v w d same = chosen (λ u. u.views d ≡ w.views d) t v w same refl
 
 others_ended : (w : World) (c : ℕ) (o : Option Commit) (d : ℕ) → c ≢ d → (ended w c o).views d ≡ w.views d
 others_ended w c None d other = refl

@@ -23,7 +23,7 @@ use Rattle.core_model.proofs.Strings as string_lemmas
 
 -- what an entry of a legal history says where it stands
 pub fits_there : (b : Basis) (before rest : List Entry) (e : Entry) (deed : Option Deed) → IsLegal b (before ++ e ∷ rest) → deed_of e.word ≡ deed → DeedFits (standing b before) (caller e) deed e.brought
-fits_there b before rest e deed l is = subst (λ d. DeedFits (standing b before) (caller e) d e.brought) is (l.fits before e rest refl).1
+fits_there b before rest e deed l is = subst (λ d. DeedFits (standing b before) (caller e) d e.brought) is (l.fits before e rest refl).deed
 
 -- the tables behind an answered add are those that the call leaves
 

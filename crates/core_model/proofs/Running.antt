@@ -13,8 +13,11 @@ use Rattle.core_model.specs.declared.call.Call.{Call}
 use Rattle.core_model.specs.Calls.{answer, is_call}
 use Rattle.core_model.specs.History.{DeedFits, IsStart, Standing, after_deed, after_entry, standing}
 use Rattle.core_model.specs.Cuts.{Cut, IsAllowed, opened}
-use Rattle.core_model.specs.World.{Commit, DeviceCall, Event, File, MayLeave, Phase, Progress, World, basis_of, begun, called, ended, ended_in, entry_of, entry_of_call, filed, filed_or_looked, first_phase, is_pass, looked, number_now, opened_world, progress, progressed, refused_commit, run, step, step_from, steps, tables_now, worked, world_after}
-use Rattle.core_model.specs.World.{settled, doubt, older, pending, resolving, resolving_sync, writing, switching, switching_sync, done, failed, calls, asks_commit, begins, calls_device, ends, dies, crashes, reopens}
+use Rattle.core_model.specs.Entries.{entry_of, entry_of_call}
+use Rattle.core_model.specs.Events.{Event, asks_commit, begins, calls, calls_device, crashes, dies, ends, reopens}
+use Rattle.core_model.specs.Files.{Commit, DeviceCall, File, MayLeave, Phase, Progress, done, doubt, failed, first_phase, older, pending, progress, resolving, resolving_sync, settled, switching, switching_sync, writing}
+use Rattle.core_model.specs.Passes.{is_pass}
+use Rattle.core_model.specs.World.{World, basis_of, begun, called, ended, ended_in, filed, filed_or_looked, looked, number_now, opened_world, progressed, refused_commit, run, step, step_from, steps, tables_now, worked, world_after}
 use Rattle.core_model.proofs.Allowed.{IsCut, IsNoOther, began_here, allowed_more, allowed_opened, is_cut, opens_cut, opens_start}
 use Rattle.core_model.proofs.Filing.{IsCallEntry, call_fits, quiet_keeps, quiet_no_end}
 use Rattle.core_model.proofs.Growing.{legal_nothing, standing_more}
@@ -52,7 +55,7 @@ holds_filed w c e up k h =
     let same : (after_entry s e).under_way ≡ s.under_way = ap (λ (z : Standing). z.under_way) (after_of s c k.deed e k.is) ∙ quiet_keeps s c k.deed e.brought k.quiet in
     record {
       start = h.start;
-      kept = kept_filed w.basis w.history w.views c e k.is.caller_is (fits_of s c k.deed e k.is k.fits) h.kept;
+      kept = kept_filed w.basis w.history w.views c e k.is.caller_is (fits_of s c k.deed e k.is k.bytes k.fits) h.kept;
       commit = agrees_more w.basis w.history e w.commit w.file no_end same h.commit;
       file = safe_more w.basis w.history e w.file no_end h.file;
       crash = λ d is. not_crashed w (w.history ++ e ∷ []) d up is;
@@ -72,16 +75,16 @@ small_cut : (w : World) (k : Commit) → Holds w → IsUnderWay w.basis w.histor
 small_cut w k h u = (is_cut w.basis w.history k.cut h.start h.kept.legal (inr u.cut)).number
 
 holds_refused : (w : World) (c : ℕ) (o : Option Commit) → w.crash ≡ None → c < 255 → w.commit ≡ o → Holds w → Holds (refused_commit w c o)
-holds_refused w c None up few is h = h
+holds_refused w c None up few is h = holds_looked w c h
 holds_refused w c (Some k) up few is h =
     let u : IsUnderWay w.basis w.history k w.file = under_way w k is h in
-    holds_filed w c (entry_of c (Underway k.cut.number) []) up (record { deed = Underway k.cut.number; is = is_of c (Underway k.cut.number) [] (omega arith) (small_cut w k h u); fits = (refl, (k.caller, u.shown)); quiet = tt }) h
+    holds_filed w c (entry_of c (Underway k.cut.number) []) up (record { deed = Underway k.cut.number; is = is_of c (Underway k.cut.number) [] (omega arith) (small_cut w k h u); bytes = refl; fits = (refl, (k.caller, u.shown)); quiet = tt }) h
 
 -- an entry that begins or ends a commit
 kept_by : (w : World) (c : ℕ) (deed : Deed) → c < 256 → IsDeed deed → DeedFits (standing w.basis w.history) c (Some deed) [] → Holds w → IsKept w.basis (w.history ++ entry_of c deed [] ∷ []) (filed w c (entry_of c deed [])).views
 kept_by w c deed few small fits h =
     let o : IsOf c deed (entry_of c deed []) = is_of c deed [] few small in
-    kept_filed w.basis w.history w.views c (entry_of c deed []) o.caller_is (fits_of (standing w.basis w.history) c deed (entry_of c deed []) o fits) h.kept
+    kept_filed w.basis w.history w.views c (entry_of c deed []) o.caller_is (fits_of (standing w.basis w.history) c deed (entry_of c deed []) o refl fits) h.kept
 
 standing_by : (w : World) (c : ℕ) (deed : Deed) → c < 256 → IsDeed deed → standing w.basis (w.history ++ entry_of c deed [] ∷ []) ≡ after_deed (standing w.basis w.history) c (Some deed) []
 standing_by w c deed few small = standing_more w.basis w.history (entry_of c deed []) ∙ after_of (standing w.basis w.history) c deed (entry_of c deed []) (is_of c deed [] few small)
@@ -169,14 +172,14 @@ holds_ended_in w k writing up at u h = h
 holds_ended_in w k switching up at u h = h
 holds_ended_in w k switching_sync up at u h = h
 
--- where a condition does not hold, nothing changes
-holds_if : (t : Bool) (v w : World) → (t ≡ true → Holds v) → Holds w → Holds (cond t v w)
-holds_if true v w p q = p refl
-holds_if false v w p q = q
+-- of the world that a test chooses holds what holds of both
+pub chosen : (P : World → Type 0) (t : Bool) (v w : World) → (t ≡ true → P v) → P w → P (cond t v w)
+chosen P true v w p q = p refl
+chosen P false v w p q = q
 
 holds_ended : (w : World) (c : ℕ) (o : Option Commit) → w.crash ≡ None → w.commit ≡ o → Holds w → Holds (ended w c o)
 holds_ended w c None up is h = h
-holds_ended w c (Some k) up is h = holds_if (k.caller == c) (ended_in w k k.phase) w (λ own. holds_ended_in w k k.phase up refl (under_way w k is h) h) h
+holds_ended w c (Some k) up is h = chosen Holds (k.caller == c) (ended_in w k k.phase) w (λ own. holds_ended_in w k k.phase up refl (under_way w k is h) h) h
 
 none_from_test : (o : Option Commit) → is_none o ≡ true → o ≡ None
 none_from_test None e = refl
@@ -184,10 +187,10 @@ none_from_test (Some k) e = absurd (grind arith)
 
 holds_run : (w : World) (event : Event) → w.crash ≡ None → Holds w → Holds (run w event)
 holds_run w (calls c call) up h =
-    holds_if (is_pass c && is_call call) (called w c call) w (λ t. let p = and_parts (is_pass c) (is_call call) t in holds_called w c call up (ltb-true c 255 p.0) p.1 h) h
-holds_run w (asks_commit c) up h = holds_if (is_pass c) (refused_commit w c w.commit) w (λ t. holds_refused w c w.commit up (ltb-true c 255 t) refl h) h
+    chosen Holds (is_pass c && is_call call) (called w c call) w (λ t. let p = and_parts (is_pass c) (is_call call) t in holds_called w c call up (ltb-true c 255 p.0) p.1 h) h
+holds_run w (asks_commit c) up h = chosen Holds (is_pass c) (refused_commit w c w.commit) w (λ t. holds_refused w c w.commit up (ltb-true c 255 t) refl h) h
 holds_run w (begins c) up h =
-    holds_if (is_pass c && is_none w.commit && ltb (number_now w) (2 ^ 32 - 1)) (begun w c) w (λ t.
+    chosen Holds (is_pass c && is_none w.commit && ltb (number_now w) (2 ^ 32 - 1)) (begun w c) w (λ t.
     let p = and_parts (is_pass c && is_none w.commit) (ltb (number_now w) (2 ^ 32 - 1)) t in
     let q = and_parts (is_pass c) (is_none w.commit) p.0 in
     holds_begun w c up (ltb-true c 255 q.0) (none_from_test w.commit q.1) (ltb-true (number_now w) (2 ^ 32 - 1) p.1) h) h

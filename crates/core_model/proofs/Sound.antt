@@ -1,5 +1,5 @@
 -- What holds at every place of a legal history: the tables are within their limits, and numbers rise.
-use Rattle.std.proofs.Common.{◌≡◌, ◌≤◌, ◌<◌, ◌^◌, ℕ, List, [], ◌∷◌, ◌++◌, Option, Some, None, refl, sym, ap, ◌∙◌, subst, arith}
+use Rattle.std.proofs.Common.{◌≡◌, ◌≤◌, ◌<◌, ◌^◌, ℕ, true, List, [], ◌∷◌, ◌++◌, Option, Some, None, refl, sym, ap, ◌∙◌, subst, arith}
 use Rattle.std.proofs.lemmas.List.{append_assoc}
 use Rattle.std.proofs.lemmas.Option.{same_Some}
 use Rattle.turnstile.specs.declared.history.Entry.{Entry}
@@ -9,6 +9,7 @@ use Rattle.call_journal.specs.declared.deed.Deed.{Deed}
 use Rattle.call_journal.specs.declared.deed.Deed.TheVariants.{Added, Asked, Counted, NotGiven, Full, Began, Ended, Underway}
 use Rattle.call_journal.specs.Words.{IsDeed, deed_of, word_of}
 use Rattle.call_journal.proofs.Decoding.{caller_of_word, deed_of_word, is_deed, small_word}
+use Rattle.core_model.specs.Calls.{are_bytes}
 use Rattle.core_model.specs.History.{DeedFits, Fits, IsLegal, IsStart, OpenCommit, Standing, after_deed, after_entries, after_entry, opening, standing}
 use Rattle.core_model.proofs.Answered.{IsWithin, within_added, within_opened}
 use Rattle.core_model.proofs.Growing.{standing_on}
@@ -51,12 +52,12 @@ each_later s e entries f = record { fits = λ before d rest eq. f.fits (e ∷ be
 pub sound_entries : (b : Basis) (s : Standing) (entries : List Entry) → EachFits s entries → IsSound b s → IsSound b (after_entries s entries)
 sound_entries b s [] f i = i
 sound_entries b s (e ∷ entries) f i =
-    sound_entries b (after_entry s e) entries (each_later s e entries f) (sound_deed b s (caller e) (deed_of e.word) e.brought (is_deed e.word) (f.fits [] e entries refl).1 i)
+    sound_entries b (after_entry s e) entries (each_later s e entries f) (sound_deed b s (caller e) (deed_of e.word) e.brought (is_deed e.word) (f.fits [] e entries refl).deed i)
 
 pub rising_entries : (s : Standing) (entries : List Entry) → EachFits s entries → s.number ≤ (after_entries s entries).number
 rising_entries s [] f = omega arith
 rising_entries s (e ∷ entries) f =
-    let one : s.number ≤ (after_entry s e).number = rising_deed s (caller e) (deed_of e.word) e.brought (f.fits [] e entries refl).1 in
+    let one : s.number ≤ (after_entry s e).number = rising_deed s (caller e) (deed_of e.word) e.brought (f.fits [] e entries refl).deed in
     let rest : (after_entry s e).number ≤ (after_entries (after_entry s e) entries).number = rising_entries (after_entry s e) entries (each_later s e entries f) in
     omega arith
 
@@ -85,8 +86,8 @@ pub is_of : (c : ℕ) (deed : Deed) (bytes : List ℕ) → c < 256 → IsDeed de
 is_of c deed bytes few small = record { caller_is = caller_of_word c deed small; deed_is = deed_of_word c deed small; small = small_word c deed few small }
 
 -- it fits where its deed does, and leaves what its deed leaves
-pub fits_of : (s : Standing) (c : ℕ) (deed : Deed) (e : Entry) → IsOf c deed e → DeedFits s c (Some deed) e.brought → Fits s e
-fits_of s c deed e o f = (o.small, rw (o.caller_is, o.deed_is) f)
+pub fits_of : (s : Standing) (c : ℕ) (deed : Deed) (e : Entry) → IsOf c deed e → are_bytes e.brought ≡ true → DeedFits s c (Some deed) e.brought → Fits s e
+fits_of s c deed e o bytes f = record { word = o.small; bytes = bytes; deed = rw (o.caller_is, o.deed_is) f }
 
 pub after_of : (s : Standing) (c : ℕ) (deed : Deed) (e : Entry) → IsOf c deed e → after_entry s e ≡ after_deed s c (Some deed) e.brought
 after_of s c deed e o = rw (o.caller_is, o.deed_is) refl

@@ -1,5 +1,5 @@
 -- Histories: the entries that calls leave, the tables behind them, and which histories are legal.
-use Rattle.std.specs.Prelude.{◌≡◌, ◌≢◌, ◌≤◌, ◌<◌, ◌+◌, ◌^◌, ◌==◌, ℕ, List, [], ◌∷◌, ◌++◌, length, get_or, Option, Some, None, Ok, if◌then◌else◌}
+use Rattle.std.specs.Prelude.{◌≡◌, ◌≢◌, ◌≤◌, ◌<◌, ◌+◌, ◌^◌, ◌==◌, ℕ, true, List, [], ◌∷◌, ◌++◌, length, get_or, Option, Some, None, Ok, if◌then◌else◌}
 use Rattle.leaf_grammar.specs.declared.grammar.Space.TheVariants as leaf
 use Rattle.record_table.specs.Table as records
 use Rattle.names_table.specs.Names as strings
@@ -13,6 +13,7 @@ use Rattle.call_journal.specs.declared.deed.Limit.TheVariants as limit
 use Rattle.call_journal.specs.declared.deed.Deed.{Deed}
 use Rattle.call_journal.specs.declared.deed.Deed.TheVariants.{Added, Asked, Counted, NotGiven, Full, Began, Ended, Underway}
 use Rattle.call_journal.specs.Words.{deed_of}
+use Rattle.core_model.specs.Calls.{are_bytes}
 use Rattle.core_model.specs.Tables.{Tables, answer_to_record, answer_to_name, item_count, type_count}
 
 -- The numbers of a basis: the number of the commit that was opened, the five limits and the version of
@@ -42,14 +43,14 @@ abbrev pub names_version : Basis → ℕ
 names_version = number_at 6
 
 -- a table of these records within the limits of a basis
-abbrev pub table_of : Basis → List (List ℕ) → records.Table
-table_of b list = record { max_records = most_records b; max_bytes = most_bytes b; records = list }
+abbrev pub limited_table : Basis → List (List ℕ) → records.Table
+limited_table b list = record { max_records = most_records b; max_bytes = most_bytes b; records = list }
 
 -- the tables as opened
 abbrev pub opened_tables : Basis → Tables
 opened_tables b = record {
-  types = table_of b b.types;
-  items = table_of b b.items;
+  types = limited_table b b.types;
+  items = limited_table b b.items;
   names = record { max_bytes = most_name_bytes b; version = names_version b; names = b.names };
 }
 
@@ -131,10 +132,10 @@ PassesNamesLimit names limit.Bytes size = ⊥
 PassesNamesLimit names limit.Names size = names.max_bytes < strings.bytes_of names.names + size + 1
 
 -- an add of this size that is refused as full
-abbrev pub IsFull : Tables → TableKind → Limit → ℕ → Type 0
-IsFull x Types limit size = PassesLimit x.types limit size
-IsFull x Items limit size = PassesLimit x.items limit size
-IsFull x Names limit size = PassesNamesLimit x.names limit size
+abbrev pub IsRefusedFull : Tables → TableKind → Limit → ℕ → Type 0
+IsRefusedFull x Types limit size = PassesLimit x.types limit size
+IsRefusedFull x Items limit size = PassesLimit x.items limit size
+IsRefusedFull x Names limit size = PassesNamesLimit x.names limit size
 
 -- A deed of a caller that fits where things stand so. Only an add that was answered brings bytes.
 abbrev pub DeedFits : Standing → ℕ → Option Deed → List ℕ → Type 0
@@ -143,14 +144,16 @@ DeedFits s c (Some (Added table at)) bytes = IsAnswered s.tables table at bytes
 DeedFits s c (Some (Asked table at)) bytes = bytes ≡ []
 DeedFits s c (Some Counted) bytes = bytes ≡ []
 DeedFits s c (Some (NotGiven index space table)) bytes = (bytes ≡ []) × NamesNothing s.tables space index × (table ≢ Names)
-DeedFits s c (Some (Full size limit table)) bytes = (bytes ≡ []) × IsFull s.tables table limit size
+DeedFits s c (Some (Full size limit table)) bytes = (bytes ≡ []) × IsRefusedFull s.tables table limit size
 DeedFits s c (Some (Began number)) bytes = (bytes ≡ []) × (s.under_way ≡ None) × (number ≡ s.number + 1)
 DeedFits s c (Some (Ended number acknowledged)) bytes = (bytes ≡ []) × (s.under_way ≡ Some (record { caller = c; number = number }))
 DeedFits s c (Some (Underway number)) bytes = (bytes ≡ []) × ((d : ℕ) × (s.under_way ≡ Some (record { caller = d; number = number })))
 
--- The entry is a caller's word of a deed that fits where things stand so.
-abbrev pub Fits : Standing → Entry → Type 0
-Fits s e = (e.word < 2 ^ 64) × DeedFits s (caller e) (deed_of e.word) e.brought
+-- The entry is a caller's word of a deed that fits where things stand so, and what was brought are bytes.
+pub record Fits (s : Standing) (e : Entry) : Type 0 where
+  pub word : e.word < 2 ^ 64
+  pub bytes : are_bytes e.brought ≡ true
+  pub deed : DeedFits s (caller e) (deed_of e.word) e.brought
 
 -- Each entry fits where it stands.
 pub record IsLegal (b : Basis) (entries : List Entry) : Type 0 where
@@ -162,6 +165,6 @@ pub record IsStart (b : Basis) : Type 0 where
   pub few_records : most_records b ≤ 2 ^ 23
   pub few_bytes : most_bytes b ≤ 2 ^ 30
   pub few_name_bytes : most_name_bytes b ≤ 2 ^ 28
-  pub types : WithinLimits (table_of b b.types)
-  pub items : WithinLimits (table_of b b.items)
+  pub types : WithinLimits (limited_table b b.types)
+  pub items : WithinLimits (limited_table b b.items)
   pub names : strings.bytes_of b.names ≤ most_name_bytes b

@@ -1,5 +1,5 @@
 -- How the laws are stated.
-use Rattle.std.specs.Prelude.{◌≡◌, ℕ, true, List, [], ◌∷◌, ◌++◌, Some, None}
+use Rattle.std.specs.Prelude.{◌≡◌, ◌<◌, ◌+◌, ◌-◌, ◌^◌, ℕ, zero, suc, Bool, true, false, List, [], ◌∷◌, ◌++◌, Some, None}
 use Rattle.std.specs.Option.{option_to_list}
 use Rattle.turnstile.specs.declared.history.Entry.{Entry}
 use Rattle.turnstile.specs.declared.history.Basis.{Basis}
@@ -10,9 +10,13 @@ use Rattle.call_journal.specs.Words.{deed_of}
 use Rattle.core_model.specs.declared.call.Call.{Call}
 use Rattle.core_model.specs.declared.call.Call.TheVariants.{AddType, AddItem, AddName}
 use Rattle.core_model.specs.Calls.{answer, is_call}
-use Rattle.core_model.specs.Cuts.{Cut}
+use Rattle.core_model.specs.Cuts.{Cut, cut_at}
+use Rattle.core_model.specs.Entries.{entry_of_call}
+use Rattle.core_model.specs.Events.{Event, begins, calls_device, ends, reopens}
+use Rattle.core_model.specs.Files.{Commit, DeviceCall, File, Phase, doubt, resolving, resolving_sync, settled, switching, switching_sync, sync, write, write_super, writing}
 use Rattle.core_model.specs.History.{IsLegal, IsStart}
-use Rattle.core_model.specs.World.{Commit, Event, World, begins, calls_device, ends, entry_of_call, is_pass, reopens, step, sync, tables_now, world_after, write, write_super}
+use Rattle.core_model.specs.Passes.{is_pass}
+use Rattle.core_model.specs.World.{World, number_now, step, tables_now, world_after}
 
 -- It holds of the world after any events, from any file that can be opened.
 abbrev pub Always : (World → Type 0) → Type 0
@@ -34,10 +38,43 @@ EachEvent P = Always (λ w. (event : Event) (c : ℕ) → w.crash ≡ None → P
 abbrev pub EachCommit : (World → Commit → Type 0) → Type 0
 EachCommit P = Always (λ w. (k : Commit) → w.commit ≡ Some k → P w k)
 
--- a commit of a pass onto a settled file that meets no failure
-abbrev pub smooth_commit : ℕ → List Event
-smooth_commit c =
-    begins c ∷ calls_device write true ∷ calls_device sync true ∷ calls_device write_super true ∷ calls_device sync true ∷ ends c ∷ []
+-- it always holds of the commit under way, while no crash has come
+abbrev pub EachUnderWay : (World → Commit → Type 0) → Type 0
+EachUnderWay P = EachCommit (λ w k. w.crash ≡ None → P w k)
+
+-- the cut of a commit that begins now
+abbrev pub next_cut : World → Cut
+next_cut w = cut_at w.basis w.history (number_now w + 1)
+
+-- It always holds of a pass that begins a commit and of its cut, while none is under way, a number is left, and no crash
+-- has come.
+abbrev pub EachBeginning : (World → ℕ → Cut → Type 0) → Type 0
+EachBeginning P = Always (λ w. (c : ℕ) → w.crash ≡ None → is_pass c ≡ true → w.commit ≡ None → number_now w < 2 ^ 32 - 1 → P w c (next_cut w))
+
+-- whether a phase has this call of the device
+abbrev pub has_call : Phase → DeviceCall → Bool
+has_call resolving write_super = true
+has_call resolving_sync sync = true
+has_call writing write = true
+has_call writing sync = true
+has_call switching write_super = true
+has_call switching_sync sync = true
+has_call _ _ = false
+
+-- the calls that settle a file in doubt
+abbrev pub settling : File → List Event
+settling (settled x) = []
+settling (doubt x p) = calls_device write_super true ∷ calls_device sync true ∷ []
+
+-- so many blocks written
+abbrev pub writes : ℕ → List Event
+writes zero = []
+writes (suc blocks) = calls_device write true ∷ writes blocks
+
+-- a pass's commit onto a file, of so many blocks, that meets no failure, with nothing between its events
+abbrev pub smooth_commit : File → ℕ → ℕ → List Event
+smooth_commit file blocks c =
+    begins c ∷ (settling file ++ (writes blocks ++ calls_device sync true ∷ calls_device write_super true ∷ calls_device sync true ∷ ends c ∷ []))
 
 -- it always holds of what a crash left, and of the world once the file is opened again
 abbrev pub AfterCrash : (World → Cut → World → Type 0) → Type 0

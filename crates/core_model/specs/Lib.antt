@@ -2,6 +2,10 @@ pub mod Tables
 pub mod Calls
 pub mod History
 pub mod Cuts
+pub mod Entries
+pub mod Passes
+pub mod Files
+pub mod Events
 pub mod World
 pub mod Law
 pub mod Plain

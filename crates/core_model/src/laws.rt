@@ -1,19 +1,23 @@
 //! The law of the world, and smaller laws that show what its words mean. docs/HISTORY.md tells them in plain
 //! words. Each is a function that does nothing: what it promises is proved of the definitions alone.
-ghost use Rattle.std.specs.Prelude.{◌≡◌, ◌≢◌, ◌≤◌, ◌<◌, ◌^◌, ◌+◌, ◌-◌, ◌/◌, ℕ, Bool, true, List, [], ◌∷◌, ◌++◌, Option, Some, Ok};
+ghost use Rattle.std.specs.Prelude.{◌≡◌, ◌≢◌, ◌⊎◌, ◌≤◌, ◌<◌, ◌^◌, ◌+◌, ◌/◌, ℕ, Bool, true, false, List, [], ◌∷◌, ◌++◌, Option, Some, None, Ok};
 ghost use Rattle.turnstile.specs.declared.history.Basis.{Basis};
 ghost use Rattle.turnstile.specs.declared.history.Entry.{Entry};
 ghost use Rattle.turnstile.specs.Histories.{Begins, caller, calls_by};
 ghost use Rattle.call_journal.specs.declared.deed.Deed.{Deed};
-ghost use Rattle.call_journal.specs.declared.deed.Deed.TheVariants.{Added, Began, Ended};
+ghost use Rattle.call_journal.specs.declared.deed.Deed.TheVariants.{Added, Began, Ended, Underway};
 ghost use Rattle.call_journal.specs.declared.deed.TableKind.{TableKind};
 ghost use Rattle.call_journal.specs.Words.{IsDeed, deed_of, word_of};
 ghost use Rattle.core_model.specs.declared.call.Outcome.TheVariants.{Index};
 ghost use Rattle.core_model.specs.Calls.{answer, tables_after};
 ghost use Rattle.core_model.specs.Cuts.{AcknowledgesNoOther, BeganAt, Cut, Extends, IsAllowed, cut_at, opened};
-ghost use Rattle.core_model.specs.History.{IsLegal, IsStart, after, age_of};
-ghost use Rattle.core_model.specs.Law.{AfterCrash, Always, EachAcknowledged, EachAdd, EachCall, EachCommit, EachEvent, IsAcknowledged, add_to, entries_of, smooth_commit};
-ghost use Rattle.core_model.specs.World.{Event, MayLeave, calls, calls_device, done, entry_of, settled, step, switching, sync, whose, world_after, write_super};
+ghost use Rattle.core_model.specs.Entries.{entry_of};
+ghost use Rattle.core_model.specs.Events.{Event, asks_commit, begins, calls, calls_device, crashes, dies, ends, whose};
+ghost use Rattle.core_model.specs.Files.{Commit, DeviceCall, MayLeave, Which, done, doubt, failed, first_phase, resolving_sync, settled, sure, switching, sync, write_super, writing};
+ghost use Rattle.core_model.specs.History.{IsLegal, IsStart, after};
+ghost use Rattle.core_model.specs.Law.{AfterCrash, Always, EachAcknowledged, EachAdd, EachBeginning, EachCall, EachCommit, EachEvent, EachUnderWay, IsAcknowledged, add_to, entries_of, has_call, smooth_commit};
+ghost use Rattle.core_model.specs.Passes.{is_pass};
+ghost use Rattle.core_model.specs.World.{step, steps};
 
 /// The law. After any events, from any file that can be opened: the history is legal; what a pass has seen is
 /// a beginning of it; the pass's own calls are those of its number there, each once and in order; and what a
@@ -26,31 +30,57 @@ pub fn world()
     ensures crash { Always (λ w. (c : Cut) → MayLeave w.file c → IsAllowed w.basis w.history c) }
 {}
 
-/// What an event does. A call is answered by the tables as they stand, and its entry, if it has one, comes
-/// last in the history and among the pass's own calls. What a pass has seen is a beginning of what it sees
-/// later. An event that is none of a pass's own changes nothing of what it has seen and of its calls.
+/// What an event does. A call is answered by the tables as they stand, and its entry, if it has one, comes last in
+/// the history and among the pass's own calls. A commit that is asked for and does not begin has an entry while one
+/// is under way, and else none; its pass has then seen the history. A commit begins with the next number, onto a
+/// file that is settled or in doubt, with the tables as they stand. The death of a client changes nothing. While
+/// the file stays open its basis is the same, and the history is a beginning of what it is later, as is what a pass
+/// has seen. An event that is none of a pass's own changes nothing of what it has seen and of its calls.
 pub fn events()
     ensures answered { EachCall (λ w c call. (step w (calls c call)).history ≡ w.history ++ entries_of w c call) }
     ensures own { EachCall (λ w c call. ((step w (calls c call)).views c).mine ≡ (w.views c).mine ++ entries_of w c call) }
     ensures sees { EachCall (λ w c call. ((step w (calls c call)).views c).seen ≡ (step w (calls c call)).history) }
+    ensures refused { EachUnderWay (λ w k. (c : ℕ) → is_pass c ≡ true → (step w (asks_commit c)).history ≡ w.history ++ entry_of c (Underway k.cut.number) [] ∷ []) }
+    ensures unfiled { Always (λ w. (c : ℕ) → w.crash ≡ None → w.commit ≡ None → (step w (asks_commit c)).history ≡ w.history) }
+    ensures looks { Always (λ w. (c : ℕ) → w.crash ≡ None → is_pass c ≡ true → ((step w (asks_commit c)).views c).seen ≡ (step w (asks_commit c)).history) }
+    ensures begins { EachBeginning (λ w c cut. (step w (begins c)).history ≡ w.history ++ entry_of c (Began cut.number) [] ∷ []) }
+    ensures under_way { EachBeginning (λ w c cut. (step w (begins c)).commit ≡ Some (record { caller = c; cut = cut; phase = first_phase w.file })) }
+    ensures dies { Always (λ w. (c : ℕ) → w.crash ≡ None → step w (dies c) ≡ w) }
+    ensures basis { Always (λ w. (event : Event) → w.crash ≡ None → (step w event).basis ≡ w.basis) }
+    ensures grows { Always (λ w. (event : Event) → w.crash ≡ None → Begins w.history (step w event).history) }
     ensures order { EachEvent (λ w event c. Begins (w.views c).seen ((step w event).views c).seen) }
     ensures others { EachEvent (λ w event c. whose event ≢ Some c → (step w event).views c ≡ w.views c) }
 {}
 
-/// What a commit does. The one under way has the tables of where it began. When its superblock is written, a
-/// crash may leave its cut, also where that write fails; what a crash may leave stays so until a sync is done; and
-/// once the commit is done, a crash leaves nothing but its cut. A commit that meets no failure is acknowledged.
+/// What a commit does. The one under way has the tables of where it began. When its superblock is written, a crash
+/// may leave its cut, also where that write fails; what a crash may leave stays so until a sync is done; and once
+/// the commit is done, a crash leaves nothing but its cut. Blocks are written onto a settled file alone, and one in
+/// doubt is first settled on its pending cut. A commit fails by a device call that fails, and by nothing else, and
+/// stays failed until it ends. The end of one that is done is acknowledged, that of one that failed is faulted. A
+/// commit onto any file that meets no failure, and no event of others, is acknowledged and leaves the file settled
+/// on the tables as they stood.
 pub fn commits()
     ensures begun { EachCommit (λ w k. BeganAt w.basis w.history k.cut) }
     ensures comes { EachCommit (λ w k. k.phase ≡ switching → w.crash ≡ None → (ok : Bool) → MayLeave (step w (calls_device write_super ok)).file k.cut) }
     ensures stays { Always (λ w. (event : Event) (c : Cut) → w.crash ≡ None → event ≢ calls_device sync true → MayLeave w.file c → MayLeave (step w event).file c) }
     ensures certain { EachCommit (λ w k. k.phase ≡ done → w.file ≡ settled k.cut) }
-    ensures succeeds { (b : Basis) (c : ℕ) → age_of b < 2 ^ 32 - 1 → c < 255 → (world_after b (smooth_commit c)).history ≡ entry_of c (Began (age_of b + 1)) [] ∷ entry_of c (Ended (age_of b + 1) true) [] ∷ [] }
+    ensures steady { EachCommit (λ w k. k.phase ≡ writing → w.file ≡ settled (sure w.file)) }
+    ensures resolves { EachUnderWay (λ w k. (x p : Cut) → k.phase ≡ resolving_sync → w.file ≡ doubt x p → (step w (calls_device sync true)).file ≡ settled p) }
+    ensures stops { EachUnderWay (λ w k. (call : DeviceCall) → has_call k.phase call ≡ true → (step w (calls_device call false)).commit ≡ Some (record k { phase = failed })) }
+    ensures fails { Always (λ w. (event : Event) (k : Commit) → w.crash ≡ None → (step w event).commit ≡ Some k → k.phase ≡ failed → (w.commit ≡ Some k) ⊎ ((call : DeviceCall) × (event ≡ calls_device call false))) }
+    ensures halts { EachUnderWay (λ w k. (event : Event) → k.phase ≡ failed → event ≢ ends k.caller → (step w event).commit ≡ Some k) }
+    ensures acknowledges { EachUnderWay (λ w k. k.phase ≡ done → (step w (ends k.caller)).history ≡ w.history ++ entry_of k.caller (Ended k.cut.number true) [] ∷ []) }
+    ensures faults { EachUnderWay (λ w k. k.phase ≡ failed → (step w (ends k.caller)).history ≡ w.history ++ entry_of k.caller (Ended k.cut.number false) [] ∷ []) }
+    ensures frees { EachUnderWay (λ w k. (k.phase ≡ done) ⊎ (k.phase ≡ failed) → (step w (ends k.caller)).commit ≡ None) }
+    ensures succeeds { EachBeginning (λ w c cut. (blocks : ℕ) → (steps w (smooth_commit w.file blocks c)).history ≡ w.history ++ entry_of c (Began cut.number) [] ∷ entry_of c (Ended cut.number true) [] ∷ []) }
+    ensures settles { EachBeginning (λ w c cut. (blocks : ℕ) → (steps w (smooth_commit w.file blocks c)).file ≡ settled cut) }
 {}
 
-/// What a crash and the opening after it leave: a cut that was allowed, a file that is settled on it, and an
-/// empty history, which is legal. A file with no records and no names can be opened.
+/// What a crash and the opening after it leave. Each cut that a crash may leave is left by some crash. One that is
+/// left was allowed, and the file that is opened is settled on it, with an empty history, which is legal. A file
+/// with no records and no names can be opened.
 pub fn reopening()
+    ensures comes { Always (λ w. (c : Cut) → w.crash ≡ None → MayLeave w.file c → (which : Which) × ((step w (crashes which)).crash ≡ Some c)) }
     ensures allowed { AfterCrash (λ w c next. IsAllowed w.basis w.history c) }
     ensures opened { AfterCrash (λ w c next. opened next.basis ≡ c) }
     ensures settled { AfterCrash (λ w c next. next.file ≡ settled c) }

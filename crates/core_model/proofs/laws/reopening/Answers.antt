@@ -1,7 +1,11 @@
+use Rattle.core_model.proofs.Committing.{crash_comes}
 use Rattle.core_model.proofs.Growing.{legal_nothing}
 use Rattle.core_model.proofs.Running.{holds_always, reopened_cut, reopened_file, reopened_start}
 use Rattle.core_model.specs.World.{world_after}
 use Rattle.core_model.proofs.laws.reopening.Goals as goal
+
+pub returns-clause-comes : goal.returns-clause-comes
+returns-clause-comes c = λ b events start. crash_comes (world_after b events)
 
 pub returns-clause-allowed : goal.returns-clause-allowed
 returns-clause-allowed c = λ b events start cut others is. (holds_always b events start).crash cut is

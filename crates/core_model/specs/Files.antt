@@ -1,0 +1,85 @@
+-- The file as crashes may leave it, and the phases of a commit onto it.
+use Rattle.std.specs.Prelude.{◌≡◌, ℕ, Bool, true, false, Option, Some, None}
+use Rattle.core_model.specs.Cuts.{Cut}
+
+-- The file: settled on one cut, or in doubt between the cut that it was settled on and a pending one. A crash leaves
+-- one of these.
+pub data File : Type 0 where
+  settled : Cut → File
+  doubt : Cut → Cut → File
+
+-- which of the cuts of a file a crash leaves: the one that it was settled on, or the pending one
+pub data Which : Type 0 where
+  older : Which
+  pending : Which
+
+abbrev pub left : File → Which → Option Cut
+left (settled x) older = Some x
+left (settled x) pending = None
+left (doubt x p) older = Some x
+left (doubt x p) pending = Some p
+
+-- a crash may leave this cut
+abbrev pub MayLeave : File → Cut → Type 0
+MayLeave file c = (which : Which) × (left file which ≡ Some c)
+
+-- the cut on which the file certainly stands
+abbrev pub sure : File → Cut
+sure (settled x) = x
+sure (doubt x p) = x
+
+-- the file settled on the pending cut
+abbrev pub resolved : File → File
+resolved (settled x) = settled x
+resolved (doubt x p) = settled p
+
+-- Where a commit stands: the pending superblock is written again; that is synced; blocks are written; the
+-- superblock is written; that is synced; and the two ends.
+pub data Phase : Type 0 where
+  resolving : Phase
+  resolving_sync : Phase
+  writing : Phase
+  switching : Phase
+  switching_sync : Phase
+  done : Phase
+  failed : Phase
+
+pub data DeviceCall : Type 0 where
+  write : DeviceCall
+  write_super : DeviceCall
+  sync : DeviceCall
+
+-- a commit under way: whose it is, its cut, and where it stands
+pub record Commit : Type 0 where
+  pub caller : ℕ
+  pub cut : Cut
+  pub phase : Phase
+
+-- the file, and where a commit onto it stands
+pub record Progress : Type 0 where
+  pub file : File
+  pub phase : Phase
+
+abbrev pub at_phase : File → Phase → Option Progress
+at_phase file phase = Some (record { file = file; phase = phase })
+
+-- What a device call makes of the file, and of the phase of a commit of this cut, where the phase has that call.
+-- The flag tells whether the call was done or failed. A superblock write that failed may still have come to the disk.
+abbrev pub progress : Cut → File → Phase → DeviceCall → Bool → Option Progress
+progress new file resolving write_super true = at_phase file resolving_sync
+progress new file resolving write_super false = at_phase file failed
+progress new file resolving_sync sync true = at_phase (resolved file) writing
+progress new file resolving_sync sync false = at_phase file failed
+progress new file writing write true = at_phase file writing
+progress new file writing write false = at_phase file failed
+progress new file writing sync true = at_phase file switching
+progress new file writing sync false = at_phase file failed
+progress new file switching write_super true = at_phase (doubt (sure file) new) switching_sync
+progress new file switching write_super false = at_phase (doubt (sure file) new) failed
+progress new file switching_sync sync true = at_phase (settled new) done
+progress new file switching_sync sync false = at_phase file failed
+progress new file _ _ _ = None
+
+abbrev pub first_phase : File → Phase
+first_phase (settled x) = writing
+first_phase (doubt x p) = resolving
