@@ -13,6 +13,7 @@ ghost use Rattle.core_model.specs.Calls.{answer, tables_after};
 ghost use Rattle.core_model.specs.Cuts.{AcknowledgesNoOther, BeganAt, Cut, Extends, IsAllowed, cut_at, opened};
 ghost use Rattle.core_model.specs.History.{IsLegal, IsStart, after, age_of};
 ghost use Rattle.core_model.specs.Law.{AfterCrash, Always, EachAcknowledged, EachAdd, EachCall, EachCommit, EachEvent, IsAcknowledged, add_to, entries_of, smooth_commit};
+ghost use Rattle.core_model.specs.Replay.{LeadsTo, counts_of, lists_of, words_of};
 ghost use Rattle.core_model.specs.World.{Event, MayLeave, calls, calls_device, done, entry_of, settled, step, switching, sync, whose, world_after, write_super};
 
 /// The law. After any events, from any file that can be opened: the history is legal; what a pass has seen is
@@ -88,4 +89,10 @@ pub fn acknowledged()
     ensures newest { EachAcknowledged (λ b history front n rest. (c : Cut) → IsAllowed b history c → n ≤ c.number) }
     ensures nothing_lost { EachAcknowledged (λ b history front n rest. (c : Cut) → IsAllowed b history c → Extends (after b front) c.tables) }
     ensures survives { Always (λ w. (front : List Entry) (n : ℕ) (c : Cut) → IsAcknowledged w.history front n → MayLeave w.file c → Extends (after w.basis front) c.tables) }
+{}
+
+/// The words of a legal history lead from the lists as opened to the lists behind it. So [`replay`](crate::replay)
+/// finds them legal.
+pub fn replayed()
+    ensures { (b : Basis) (h : List Entry) → IsLegal b h → LeadsTo (counts_of b) (words_of h) (lists_of (after b h)) }
 {}
