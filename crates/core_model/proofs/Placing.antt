@@ -7,12 +7,12 @@ use Rattle.std.specs.Str.{bytes_eq}
 use Rattle.std.proofs.lemmas.Bool.{cond-false, cond-true, ltb-false}
 use Rattle.std.proofs.lemmas.Bool.Decides.{eqb_tells, nat_tests}
 use Rattle.std.proofs.lemmas.List.{append_assoc, take_all, take-append-le}
-use Rattle.std.proofs.lemmas.Slice.Eq.{bytes_eq-Decides}
 use Rattle.record_table.specs.Table.{index_at, place_of}
 use Rattle.names_table.specs.Names.{bytes_of, offset_from}
 use Rattle.core_model.specs.Cuts.{StartsWith}
 use Rattle.core_model.specs.Steps.{count_with, is_first, is_place, place_fits, place_of_index, place_of_offset}
 use Rattle.core_model.proofs.Counting.{place_of-within, some-bytes}
+use Rattle.core_model.proofs.Searching.{found_behind, found_first, found_there, place_behind, place_on}
 
 -- a test that holds, of two numbers
 pub equal : (a b : ℕ) → eqb a b ≡ true → a ≡ b
@@ -25,52 +25,6 @@ place_for list r = unwrap_or (place_of list r) (length list)
 -- the list with it, where its place is the next
 abbrev pub with_at : List (List ℕ) → ℕ → List ℕ → List (List ℕ)
 with_at list p r = cond (p == length list) (list ++ r ∷ []) list
-
--- Searches in a list that goes on.
-
--- a place stays
-place_on : (a b : List (List ℕ)) (r : List ℕ) (p : ℕ) → place_of a r ≡ Some p → place_of (a ++ b) r ≡ Some p
-place_on [] b r p e = absurd cc
-place_on (x ∷ a) b r p e = go (bytes_eq x r) (place_of a r) (place_of (a ++ b) r) (λ q f. place_on a b r q f) e where
-  go : (t : Bool) (o n : Option ℕ) → ((q : ℕ) → o ≡ Some q → n ≡ Some q) → cond t (Some 0) (option_map (λ place. place + 1) o) ≡ Some p → cond t (Some 0) (option_map (λ place. place + 1) n) ≡ Some p
-  go true o n h e = e
-  go false None n h e = absurd cc
-  go false (Some q) n h e = rw (h q refl) e
-
--- what is not in the list has its place behind it
-place_behind : (a b : List (List ℕ)) (r : List ℕ) → place_of a r ≡ None → place_of (a ++ b) r ≡ option_map (λ place. length a + place) (place_of b r)
-place_behind [] b r e = go (place_of b r) where
-  go : (o : Option ℕ) → o ≡ option_map (λ place. 0 + place) o
-  go None = refl
-  go (Some p) = ap Some (omega arith)
-place_behind (x ∷ a) b r e = go (bytes_eq x r) (place_of a r) (place_of b r) (place_of (a ++ b) r) (place_behind a b r) e where
-  go : (t : Bool) (o m n : Option ℕ) → (o ≡ None → n ≡ option_map (λ place. length a + place) m) → cond t (Some 0) (option_map (λ place. place + 1) o) ≡ None
-      → cond t (Some 0) (option_map (λ place. place + 1) n) ≡ option_map (λ place. length (x ∷ a) + place) m
-  go true o m n h e = absurd cc
-  go false (Some q) m n h e = absurd cc
-  go false None None n h e = rw (h refl) refl
-  go false None (Some q) n h e = rw (h refl) (ap Some (omega arith))
-
--- what stands at the first place
-found_first : (b : List (List ℕ)) (r : List ℕ) → place_of b r ≡ Some 0 → (more : List (List ℕ)) × (b ≡ r ∷ more)
-found_first [] r e = absurd cc
-found_first (x ∷ b) r e = go (bytes_eq x r) refl (place_of b r) e where
-  go : (t : Bool) → bytes_eq x r ≡ t → (o : Option ℕ) → cond t (Some 0) (option_map (λ place. place + 1) o) ≡ Some 0 → (more : List (List ℕ)) × (x ∷ b ≡ r ∷ more)
-  go true same o e = (b, ap (λ z. z ∷ b) ((bytes_eq-Decides x r).0 same))
-  go false other None e = absurd cc
-  go false other (Some q) e = let next : q + 1 ≡ 0 = cc in absurd (omega arith)
-
--- what stands at a place that was found
-pub found_there : (a : List (List ℕ)) (r : List ℕ) (p : ℕ) → place_of a r ≡ Some p → slice_get a p ≡ Some r
-found_there [] r p e = absurd cc
-found_there (x ∷ a) r p e = go (bytes_eq x r) refl (place_of a r) (λ q f. found_there a r q f) e where
-  go : (t : Bool) → bytes_eq x r ≡ t → (o : Option ℕ) → ((q : ℕ) → o ≡ Some q → slice_get a q ≡ Some r) → cond t (Some 0) (option_map (λ place. place + 1) o) ≡ Some p → slice_get (x ∷ a) p ≡ Some r
-  go true same o h e = let zeroth : 0 ≡ p = cc in subst (λ k. slice_get (x ∷ a) k ≡ Some r) zeroth (ap Some ((bytes_eq-Decides x r).0 same))
-  go false other None h e = absurd cc
-  go false other (Some q) h e =
-      let next : q + 1 ≡ p = cc in
-      let after : suc q ≡ p = omega arith in
-      subst (λ k. slice_get (x ∷ a) k ≡ Some r) after (h q refl)
 
 -- What an add gave this place in a list, and where the final list has it.
 pub record Placed (list final : List (List ℕ)) (r : List ℕ) (p : ℕ) : Type 0 where
@@ -99,13 +53,11 @@ placed list final r p is s = go (place_of list r) refl is where
       }
   go None e same =
       let on : final ≡ list ++ (r ∷ s.0) = s.1 ∙ ap (λ z. z ++ s.0) (with_at-next list p r (sym same)) ∙ append_assoc list (r ∷ []) s.0 in
-      let first : place_of (r ∷ s.0) r ≡ Some 0 = ap (λ b. cond b (Some 0) (option_map (λ place. place + 1) (place_of s.0 r))) ((bytes_eq-Decides r r).1 refl) in
-      let last : length list + 0 ≡ p = omega arith in
       record {
         place = is;
         begins = s;
         within = omega arith;
-        there = ap (λ z. place_of z r) on ∙ place_behind list (r ∷ s.0) r e ∙ ap (option_map (λ place. length list + place)) first ∙ ap Some last;
+        there = ap (λ z. place_of z r) on ∙ found_behind list s.0 r e ∙ ap Some same;
       }
 
 -- How the code tests a place.

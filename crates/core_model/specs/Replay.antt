@@ -1,4 +1,4 @@
--- Which journal words are a history that leads from the first parts of three final lists to the whole lists.
+-- Which journal words are those of a history that leads from the first parts of three final lists to the whole lists.
 use Rattle.std.specs.Prelude.{◌≡◌, ◌≢◌, ◌<◌, ◌+◌, ◌⊎◌, ℕ, List, [], ◌∷◌, ◌++◌, length, take, All, Option, Some, None}
 use Rattle.std.specs.Option.{unwrap_or}
 use Rattle.record_table.specs.Table as records
