@@ -8,9 +8,9 @@ use srv_edge::{RecordList, Text};
 /// Judges whether words are those of a history that leads from the first types, items and names, as many as
 /// `start` says, to the whole lists. It takes no memory.
 ///
-/// Of what a word cannot show it says nothing: that a record that was added is a leaf whose fields name
-/// records, that a limit was met, and which number the first commit has. Where there are fewer types, items or
-/// names than `start` says, the words are wrong from the first place on.
+/// Of what a word cannot show it says nothing: that what was added is a name, or a leaf whose fields name records,
+/// and that there was room for it; that a limit was met; and which number the first commit has. Where there are
+/// fewer types, items or names than `start` says, the words are wrong at place 0.
 ///
 /// Each word of an add searches its list from the front, so the time grows with the number of adds times the
 /// length of their list. Every other word takes the same time, wherever it stands.
