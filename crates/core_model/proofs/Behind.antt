@@ -1,8 +1,14 @@
--- How far words come, one word more.
-use Rattle.std.proofs.Common.{◌≡◌, ◌<◌, ◌+◌, ℕ, zero, suc, List, [], ◌∷◌, ◌++◌, length, get_or, take, drop, Option, Some, None, option_and_then, refl, sym, ap, ◌∙◌, arith}
-use Rattle.std.proofs.lemmas.List.{length-take-le}
+-- How far words come, one word more, and what that says of them.
+use Rattle.std.proofs.Common.{◌≡◌, ◌≤◌, ◌<◌, ◌+◌, ℕ, zero, suc, true, false, inl, inr, List, [], ◌∷◌, ◌++◌, length, length-append, get_or, take, drop, Option, Some, None, option_and_then, refl, sym, ap, subst, ◌∙◌, arith}
+use Rattle.std.proofs.lemmas.List.{take_all}
 use Rattle.core_model.specs.declared.passed.Passed.{Passed}
-use Rattle.core_model.specs.Replay.{IsFirstWrong, LeadsToTheEnd, Lists, behind, behind_all}
+use Rattle.core_model.specs.Cuts.{Extends, StartsWith}
+use Rattle.core_model.specs.History.{after}
+use Rattle.core_model.specs.Replay.{IsFirstWrong, AreBeginnings, IsWrongAt, LeadsInto, LeadsTo, Lists, lists_of}
+use Rattle.core_model.specs.Steps.{HasStart, behind, behind_all, is_end, started}
+use Rattle.core_model.proofs.Extending.{extends_history}
+use Rattle.core_model.proofs.Leading.{into_passes, reached_on, self_reached, to_passes}
+use Rattle.core_model.proofs.Tracing.{passes_into}
 
 -- behind a word that fits, or where none does
 both : (lists : Lists) (a b : List ℕ) → ((q : Passed) → behind_all lists q (a ++ b) ≡ option_and_then (λ r. behind_all lists r b) (behind_all lists q a)) → (o : Option Passed)
@@ -43,23 +49,80 @@ take-next (w ∷ words) (suc i) within =
     let next : suc i + 1 ≡ suc (i + 1) = omega arith in
     rw next (ap (λ ws. w ∷ ws) (take-next words i (omega arith)))
 
--- where a word does not fit, its place is the least
-pub wrong_at : (lists : Lists) (p q : Passed) (words : List ℕ) (i : ℕ) → i < length words → behind_all lists p (take i words) ≡ Some q → behind lists q (get_or words i 0) ≡ None
-    → IsFirstWrong lists p words i
-wrong_at lists p q words i within fits wrong = record {
-  before = take i words;
-  rest = get_or words i 0 ∷ drop (i + 1) words;
-  there = parted words i within;
-  at = length-take-le i words (omega arith);
-  last = q;
-  fits = fits;
-  wrong = wrong;
+-- words that pass, to an earlier place
+passes_before : (lists : Lists) (p q : Passed) (words : List ℕ) (i j : ℕ) → j ≤ i → behind_all lists p (take i words) ≡ Some q → (r : Passed) × (behind_all lists p (take j words) ≡ Some r)
+passes_before lists p q words i zero le e = (p, refl)
+passes_before lists p q [] i (suc j) le e = (p, refl)
+passes_before lists p q (w ∷ words) zero (suc j) le e = absurd (omega arith)
+passes_before lists p q (w ∷ words) (suc i) (suc j) le e = go (behind lists p w) (λ r f. passes_before lists r q words i j (omega arith) f) e where
+  go : (o : Option Passed) → ((r : Passed) → behind_all lists r (take i words) ≡ Some q → (s : Passed) × (behind_all lists r (take j words) ≡ Some s)) → option_and_then (λ r. behind_all lists r (take i words)) o ≡ Some q
+      → (s : Passed) × (option_and_then (λ r. behind_all lists r (take j words)) o ≡ Some s)
+  go None h e = absurd cc
+  go (Some r) h e = h r e
+
+-- The verdict.
+
+to_into : (start : ℕ × ℕ × ℕ) (words : List ℕ) (lists : Lists) → LeadsTo start words lists → LeadsInto start words lists
+to_into start words lists k = record { reached = lists; leads = k; beginnings = self_reached lists }
+
+starts_shorter : (short long : List (List ℕ)) → StartsWith short long → length short ≤ length long
+starts_shorter short long s = omega (arith, ap length s.1, length-append short s.0)
+
+-- the lists have what there was at first
+start_there : (start : ℕ × ℕ × ℕ) (words : List ℕ) (lists : Lists) → LeadsInto start words lists → HasStart lists start
+start_there start words lists i =
+    let k = i.leads in
+    let kept : Extends (after k.basis []) (after k.basis k.entries) = extends_history k.basis [] k.entries in
+    let begins : AreBeginnings (lists_of (after k.basis k.entries)) lists = subst (λ z. AreBeginnings z lists) (sym k.lists) i.beginnings in
+    let opened = reached_on (after k.basis []) (after k.basis k.entries) lists kept begins in
+    subst (HasStart lists) k.counts
+    (record { types = starts_shorter k.basis.types lists.types opened.types; items = starts_shorter k.basis.items lists.items opened.items; names = starts_shorter k.basis.names lists.names opened.names })
+
+-- without that, no word leads into them
+pub wrong_from_start : (start : ℕ × ℕ × ℕ) (words : List ℕ) (lists : Lists) → ¬ HasStart lists start → IsFirstWrong start words lists 0
+wrong_from_start start words lists lacks = record { wrong = go words; least = λ earlier below. absurd (omega arith) } where
+  go : (words : List ℕ) → IsWrongAt start words lists 0
+  go [] = inr (refl, λ k. lacks (start_there start [] lists (to_into start [] lists k)))
+  go (w ∷ words) = inl (omega arith, λ k. lacks (start_there start (take (0 + 1) (w ∷ words)) lists k))
+
+pub leads_not_without : (start : ℕ × ℕ × ℕ) (words : List ℕ) (lists : Lists) → ¬ HasStart lists start → ¬ LeadsTo start words lists
+leads_not_without start words lists lacks k = lacks (start_there start words lists (to_into start words lists k))
+
+-- before a place to which the words pass none is wrong
+none_earlier : (start : ℕ × ℕ × ℕ) (words : List ℕ) (lists : Lists) (q : Passed) (i : ℕ) → HasStart lists start → i ≤ length words → behind_all lists (started start) (take i words) ≡ Some q
+    → (earlier : ℕ) → earlier < i → ¬ IsWrongAt start words lists earlier
+none_earlier start words lists q i has within e earlier less (inl wrong) =
+    let r = passes_before lists (started start) q words i (earlier + 1) (omega arith) e in wrong.1 (passes_into start (take (earlier + 1) words) lists r.0 has r.1)
+none_earlier start words lists q i has within e earlier less (inr wrong) = omega (arith, wrong.0)
+
+-- where a word does not fit
+not_further : (lists : Lists) (p q : Passed) (words : List ℕ) (i : ℕ) → i < length words → behind_all lists p (take i words) ≡ Some q → behind lists q (get_or words i 0) ≡ None → behind_all lists p (take (i + 1) words) ≡ None
+not_further lists p q words i within fits wrong = ap (behind_all lists p) (take-next words i within) ∙ stuck lists p q (take i words) (get_or words i 0) [] fits wrong
+
+pub wrong_at : (start : ℕ × ℕ × ℕ) (words : List ℕ) (lists : Lists) (q : Passed) (i : ℕ) → HasStart lists start → i < length words → behind_all lists (started start) (take i words) ≡ Some q → behind lists q (get_or words i 0) ≡ None
+    → IsFirstWrong start words lists i
+wrong_at start words lists q i has within fits wrong = record {
+  wrong = inl (within, λ k. let r = into_passes start (take (i + 1) words) lists k in let no : None ≡ Some r.0 = sym (not_further lists (started start) q words i within fits wrong) ∙ r.1 in absurd cc);
+  least = none_earlier start words lists q i has (omega arith) fits;
 }
 
--- and the words lead nowhere
-pub leads_nowhere : (lists : Lists) (p q : Passed) (words : List ℕ) (i : ℕ) → i < length words → behind_all lists p (take i words) ≡ Some q → behind lists q (get_or words i 0) ≡ None
-    → LeadsToTheEnd lists p words → ⊥
-leads_nowhere lists p q words i within fits wrong leads =
-    let none : behind_all lists p words ≡ None =
-    ap (behind_all lists p) (parted words i within) ∙ stuck lists p q (take i words) (get_or words i 0) (drop (i + 1) words) fits wrong in
-    let some : None ≡ Some leads.last = sym none ∙ leads.fits in absurd cc
+pub leads_not_past : (start : ℕ × ℕ × ℕ) (words : List ℕ) (lists : Lists) (q : Passed) (i : ℕ) → i < length words → behind_all lists (started start) (take i words) ≡ Some q → behind lists q (get_or words i 0) ≡ None
+    → ¬ LeadsTo start words lists
+leads_not_past start words lists q i within fits wrong k =
+    let r = to_passes start words lists k in
+    let none : behind_all lists (started start) words ≡ None =
+    ap (behind_all lists (started start)) (parted words i within) ∙ stuck lists (started start) q (take i words) (get_or words i 0) (drop (i + 1) words) fits wrong in
+    let no : None ≡ Some r.0 = sym none ∙ r.1 in absurd cc
+
+-- where all words pass, and the lists are not whole
+pub leads_not_whole : (start : ℕ × ℕ × ℕ) (words : List ℕ) (lists : Lists) (q : Passed) → behind_all lists (started start) words ≡ Some q → is_end lists q ≡ false → ¬ LeadsTo start words lists
+leads_not_whole start words lists q fits short k =
+    let r = to_passes start words lists k in
+    let same : r.0 ≡ q = let z : Some r.0 ≡ Some q = sym r.1 ∙ fits in cc in
+    let no : true ≡ false = sym r.2 ∙ ap (is_end lists) same ∙ short in absurd cc
+
+pub wrong_behind : (start : ℕ × ℕ × ℕ) (words : List ℕ) (lists : Lists) (q : Passed) → HasStart lists start → behind_all lists (started start) words ≡ Some q → is_end lists q ≡ false → IsFirstWrong start words lists (length words)
+wrong_behind start words lists q has fits short = record {
+  wrong = inr (refl, leads_not_whole start words lists q fits short);
+  least = none_earlier start words lists q (length words) has (omega arith) (ap (behind_all lists (started start)) (take_all (length words) words (omega arith)) ∙ fits);
+}

@@ -23,10 +23,10 @@ use Rattle.core_model.proofs.Replying.{fits_there}
 use Rattle.core_model.proofs.Sound.{rising}
 use Rattle.core_model.proofs.Strings as string_lemmas
 
-starts_self : (xs : List (List ℕ)) → StartsWith xs xs
+pub starts_self : (xs : List (List ℕ)) → StartsWith xs xs
 starts_self xs = ([], sym (append-nil xs))
 
-starts_on : (xs ys zs : List (List ℕ)) → StartsWith xs ys → StartsWith ys zs → StartsWith xs zs
+pub starts_on : (xs ys zs : List (List ℕ)) → StartsWith xs ys → StartsWith ys zs → StartsWith xs zs
 starts_on xs ys zs p q = (p.0 ++ q.0, q.1 ∙ ap (λ z. z ++ q.0) p.1 ∙ append_assoc xs p.0 q.0)
 
 extends_self : (x : Tables) → Extends x x

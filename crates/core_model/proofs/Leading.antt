@@ -1,11 +1,11 @@
--- The words of a legal history lead from the lists as opened to the lists behind it.
-use Rattle.std.proofs.Common.{◌≡◌, ◌≢◌, ◌≤◌, ◌+◌, ◌==◌, ℕ, Bool, true, false, cond, ltb, eq-eqb, ne_eqb, List, [], ◌∷◌, ◌++◌, length, Option, Some, None, option_and_then, Ok, refl, sym, ap, subst, ◌∙◌, arith}
-use Rattle.std.specs.Prelude.{◌&&◌, not, is_none}
+-- Words that show that they fit are let pass by the code.
+use Rattle.std.proofs.Common.{◌≡◌, ◌≢◌, ◌≤◌, ◌+◌, ◌==◌, ℕ, Bool, true, false, cond, ltb, eq-eqb, ⊎_elim, List, [], ◌∷◌, ◌++◌, length, length-append, Option, Some, None, option_and_then, refl, sym, ap, subst, ◌∙◌, arith}
+use Rattle.std.specs.Prelude.{◌⊎◌, ◌&&◌, not, is_none}
+use Rattle.std.proofs.Math.Seq.{get_or-append_seam}
 use Rattle.std.proofs.lemmas.Bool.Decides.{nat_tests}
-use Rattle.std.proofs.lemmas.List.{append-nil, append_assoc}
-use Rattle.leaf_grammar.specs.declared.grammar.Space.TheVariants as leaf
+use Rattle.std.proofs.lemmas.List.{append-nil, append_assoc, get_or_append_left}
+use Rattle.std.proofs.lemmas.List.Elements.{All-append, All-cons, All-nil}
 use Rattle.record_table.specs.Table as records
-use Rattle.names_table.specs.Names as strings
 use Rattle.turnstile.specs.declared.history.Entry.{Entry}
 use Rattle.turnstile.specs.declared.history.Basis.{Basis}
 use Rattle.turnstile.specs.Histories.{caller}
@@ -18,202 +18,196 @@ use Rattle.call_journal.specs.declared.deed.Deed.TheVariants.{Added, Asked, Coun
 use Rattle.call_journal.specs.Words.{deed_of}
 use Rattle.core_model.specs.declared.passed.CommitOpen.{CommitOpen}
 use Rattle.core_model.specs.declared.passed.Passed.{Passed}
-use Rattle.core_model.specs.Tables.{Tables, item_count, type_count}
-use Rattle.core_model.specs.Cuts.{Extends, StartsWith}
-use Rattle.core_model.specs.History.{DeedFits, IsRefusedFull, IsLegal, NamesNothing, OpenCommit, Standing, after, after_deed, after_entry, standing, with_added}
-use Rattle.core_model.specs.Replay.{LeadsToTheEnd, Lists, behind_all, behind_deed, count_with, counts_of, holds_records, is_end, is_limit_of, is_next, is_open, is_open_number, lists_of, names_nothing, place_fits, place_of_index, place_of_offset, started, words_of}
-use Rattle.core_model.proofs.Answered.{added_items, added_names, added_types, is_taken, name_is_taken}
-use Rattle.core_model.proofs.Counting.{some-bytes}
-use Rattle.core_model.proofs.Extending.{extends_history}
+use Rattle.core_model.specs.Tables.{Tables}
+use Rattle.core_model.specs.Cuts.{Extends}
+use Rattle.core_model.specs.History.{NamesNothing, OpenCommit, Standing, after, after_deed, after_entry, standing}
+use Rattle.core_model.specs.Replay.{DeedShows, HasLimit, AreBeginnings, IsShown, LeadsInto, LeadsTo, Lists, NoneBegan, counts_of, lists_of, words_of}
+use Rattle.core_model.specs.Steps.{behind, behind_all, behind_deed, holds_records, is_end, is_limit_of, is_next, is_open, is_open_number, names_nothing, started}
+use Rattle.core_model.proofs.Adding.{Counts, add_passes}
+use Rattle.core_model.proofs.Extending.{extends_history, starts_on, starts_self}
 use Rattle.core_model.proofs.Growing.{standing_more}
-use Rattle.core_model.proofs.Records as record_lemmas
-use Rattle.core_model.proofs.Replaying.{AddFits, add_name, add_record, name_begins}
-use Rattle.core_model.proofs.Strings as string_lemmas
 
--- a commit under way, as a replay has it
+-- whether a commit began among entries of one more
+
+none_before : (before : List Entry) (e : Entry) → NoneBegan (before ++ e ∷ []) → NoneBegan before
+none_before before e none k d within number =
+    subst (λ (z : Entry). deed_of z.word ≢ Some (Began number)) (get_or_append_left before (e ∷ []) d k within) (none k d (omega (arith, length-append before (e ∷ []))) number)
+
+none_more : (before : List Entry) (e : Entry) → ((number : ℕ) → deed_of e.word ≢ Some (Began number)) → NoneBegan before → NoneBegan (before ++ e ∷ [])
+none_more before e other none =
+    let P : Entry → Type 0 = λ d. (number : ℕ) → deed_of d.word ≢ Some (Began number) in
+    All-append P before (e ∷ []) none (All-cons P e [] other (All-nil P))
+
+some_began : (before : List Entry) (e : Entry) (number : ℕ) → deed_of e.word ≡ Some (Began number) → NoneBegan (before ++ e ∷ []) → ⊥
+some_began before e number is none =
+    none (length before) e (omega (arith, length-append before (e ∷ []))) number (subst (λ (z : Entry). deed_of z.word ≡ Some (Began number)) (sym (get_or-append_seam before e [] e)) is)
+
+-- the last number, as the code has it: of the last commit that began, if one did
+abbrev pub LastIs : Type 0 → ℕ → Option ℕ → Type 0
+LastIs none number None = none
+LastIs none number (Some last) = ¬ none × (last ≡ number)
+
+-- a commit under way, as the code has it
 abbrev pub opened_by : Option OpenCommit → Option CommitOpen
 opened_by None = None
 opened_by (Some k) = Some (record { caller = k.caller; number = k.number })
 
--- how far words have come, where things stand so behind them
-pub record Agrees (s : Standing) (p : Passed) : Type 0 where
-  pub types : p.types ≡ length s.tables.types.records
-  pub items : p.items ≡ length s.tables.items.records
-  pub names : p.names ≡ length s.tables.names.names
-  pub last : (n : ℕ) → p.last ≡ Some n → n ≡ s.number
+-- how far the words have come in the code, where this is how things stand
+pub record AgreesWith (s : Standing) (none : Type 0) (p : Passed) : Type 0 where
+  pub counts : Counts p (lists_of s.tables)
+  pub last : LastIs none s.number p.last
   pub commit : p.under_way ≡ opened_by s.under_way
 
--- a deed fits, and agrees
-pub record Step (lists : Lists) (s : Standing) (p : Passed) (c : ℕ) (d : Option Deed) : Type 0 where
+abbrev pub Agrees : Basis → List Entry → Passed → Type 0
+Agrees b entries p = AgreesWith (standing b entries) (NoneBegan entries) p
+
+-- a deed that the code lets pass, and agrees
+pub record Step (lists : Lists) (b : Basis) (before : List Entry) (e : Entry) (p : Passed) (d : Option Deed) : Type 0 where
   pub further : Passed
-  pub fits : behind_deed lists p c d ≡ Some further
-  pub agrees : Agrees s further
+  pub fits : behind_deed lists p (caller e) d ≡ Some further
+  pub agrees : AgreesWith (after_deed (standing b before) (caller e) d e.brought) (NoneBegan (before ++ e ∷ [])) further
 
--- an add
-added_further : (place : Option ℕ) (list : List (List ℕ)) (count n after : ℕ) (to : ℕ → Passed) → count ≡ n → AddFits list n after place
-    → cond (place_fits list count place) (Some (to (count_with count place))) None ≡ Some (to after)
-added_further place list count n after to e f =
-    ap (λ k. cond (place_fits list k place) (Some (to (count_with k place))) None) e
-    ∙ ap (λ b. cond b (Some (to (count_with n place))) None) f.fits ∙ ap (λ k. Some (to k)) f.counts
+last_kept : (before : List Entry) (e : Entry) (number : ℕ) (o : Option ℕ) → ((n : ℕ) → deed_of e.word ≢ Some (Began n)) → LastIs (NoneBegan before) number o → LastIs (NoneBegan (before ++ e ∷ [])) number o
+last_kept before e number None other last = none_more before e other last
+last_kept before e number (Some n) other last = (λ none. last.0 (none_before before e none), last.1)
 
-step_type : (s : Standing) (p : Passed) (c at : ℕ) (r : List ℕ) (final : Tables) → DeedFits s c (Some (Added Types at)) r → Agrees s p → Extends (with_added s.tables Types at r) final
-    → Step (lists_of final) (after_deed s c (Some (Added Types at)) r) p c (Some (Added Types at))
-step_type s p c at r final fits a extends =
-    let k = is_taken leaf.Types s.tables.types (type_count s.tables) (item_count s.tables) r at fits in
-    let grown = record_lemmas.grown s.tables.types at r in
-    let starts : StartsWith grown.records final.types.records = subst (λ (z : Tables). StartsWith z.types.records final.types.records) (added_types s.tables at r) extends.types in
-    let f = add_record s.tables.types r at final.types.records k.add starts in
-    record {
-      further = record p { types = length grown.records };
-      fits = added_further (place_of_index at) final.types.records p.types (length s.tables.types.records) (length grown.records) (λ n. record p { types = n }) a.types f;
-      agrees = rw (added_types s.tables at r) (record { types = refl; items = a.items; names = a.names; last = a.last; commit = a.commit });
-    }
+-- a step that changes nothing of what has passed
+stays : (lists : Lists) (b : Basis) (before : List Entry) (e : Entry) (p : Passed) (d : Option Deed) → Agrees b before p → deed_of e.word ≡ d → ((n : ℕ) → d ≢ Some (Began n)) → after_deed (standing b before) (caller e) d e.brought ≡ standing b before
+    → behind_deed lists p (caller e) d ≡ Some p → Step lists b before e p d
+stays lists b before e p d a is other same fits = record {
+  further = p;
+  fits = fits;
+  agrees = subst (λ s. AgreesWith s (NoneBegan (before ++ e ∷ [])) p) (sym same) (record { counts = a.counts; last = last_kept before e (standing b before).number p.last (λ n began. other n (sym is ∙ began)) a.last; commit = a.commit });
+}
 
-step_item : (s : Standing) (p : Passed) (c at : ℕ) (r : List ℕ) (final : Tables) → DeedFits s c (Some (Added Items at)) r → Agrees s p → Extends (with_added s.tables Items at r) final
-    → Step (lists_of final) (after_deed s c (Some (Added Items at)) r) p c (Some (Added Items at))
-step_item s p c at r final fits a extends =
-    let k = is_taken leaf.Items s.tables.items (type_count s.tables) (item_count s.tables) r at fits in
-    let grown = record_lemmas.grown s.tables.items at r in
-    let starts : StartsWith grown.records final.items.records = subst (λ (z : Tables). StartsWith z.items.records final.items.records) (added_items s.tables at r) extends.items in
-    let f = add_record s.tables.items r at final.items.records k.add starts in
-    record {
-      further = record p { items = length grown.records };
-      fits = added_further (place_of_index at) final.items.records p.items (length s.tables.items.records) (length grown.records) (λ n. record p { items = n }) a.items f;
-      agrees = rw (added_items s.tables at r) (record { types = a.types; items = refl; names = a.names; last = a.last; commit = a.commit });
-    }
+if_true : (b : Bool) (p : Passed) → b ≡ true → cond b (Some p) None ≡ Some p
+if_true b p e = ap (λ z. cond z (Some p) None) e
 
--- a name that is not empty begins behind the first byte
-begins_behind : (t : strings.Names) (x : ℕ) (xs : List ℕ) (at : ℕ) → strings.answer_to_add t (x ∷ xs) ≡ Ok at → 1 ≤ at
-begins_behind t x xs at e =
-    let h = name_begins (string_lemmas.grown t at (x ∷ xs)).names x xs at (string_lemmas.offset_after t (x ∷ xs) at e) in omega arith
-
-step_name : (s : Standing) (p : Passed) (c at : ℕ) (name : List ℕ) (final : Tables) → DeedFits s c (Some (Added Names at)) name → Agrees s p → Extends (with_added s.tables Names at name) final
-    → Step (lists_of final) (after_deed s c (Some (Added Names at)) name) p c (Some (Added Names at))
-step_name s p c at [] final fits a extends =
-    let k : strings.answer_to_add s.tables.names [] ≡ Ok at = name_is_taken s.tables.names [] at fits.1 in
-    let zeroth : at ≡ 0 = cc in
-    let same : (at == strings.bytes_of s.tables.names.names) ≡ false = rw zeroth (ne_eqb 0 (strings.bytes_of s.tables.names.names) (λ e. omega (arith, e, some-bytes s.tables.names.names))) in
-    let kept : with_added s.tables Names at [] ≡ s.tables = ap (λ b. cond b (record (s.tables) { names = string_lemmas.with_name s.tables.names [] }) s.tables) same in
-    record {
-      further = p;
-      fits = ap (λ b. cond b (Some p) (cond (place_fits final.names.names p.names (place_of_offset 1 final.names.names at)) (Some (record p { names = count_with p.names (place_of_offset 1 final.names.names at) })) None)) (eq-eqb at 0 zeroth);
-      agrees = rw kept (record { types = a.types; items = a.items; names = a.names; last = a.last; commit = a.commit });
-    }
-step_name s p c at (x ∷ xs) final fits a extends =
-    let k = name_is_taken s.tables.names (x ∷ xs) at fits.1 in
-    let grown = string_lemmas.grown s.tables.names at (x ∷ xs) in
-    let starts : StartsWith grown.names final.names.names = subst (λ (z : Tables). StartsWith z.names.names final.names.names) (added_names s.tables at (x ∷ xs)) extends.names in
-    let f = add_name s.tables.names x xs at final.names.names k starts in
-    let some : 1 ≤ at = begins_behind s.tables.names x xs at k in
-    record {
-      further = record p { names = length grown.names };
-      fits = ap (λ b. cond b (Some p) (cond (place_fits final.names.names p.names (place_of_offset 1 final.names.names at)) (Some (record p { names = count_with p.names (place_of_offset 1 final.names.names at) })) None)) (ne_eqb at 0 (λ e. omega (arith, e, some)))
-          ∙ added_further (place_of_offset 1 final.names.names at) final.names.names p.names (length s.tables.names.names) (length grown.names) (λ n. record p { names = n }) a.names f;
-      agrees = rw (added_names s.tables at (x ∷ xs)) (record { types = a.types; items = a.items; names = refl; last = a.last; commit = a.commit });
-    }
+not_below : (index n : ℕ) → n ≤ index → not (ltb index n) ≡ true
+not_below index n above = let below : ltb index n ≡ false = grind (arith, nat_tests) in ap not below
 
 of_records : (table : TableKind) → table ≢ Names → holds_records table ≡ true
 of_records Types other = refl
 of_records Items other = refl
 of_records Names other = absurd (other refl)
 
-same_some : (m n : ℕ) → Some m ≡ Some n → m ≡ n
-same_some m n e = cc
-
--- a step that fits and changes nothing of what has passed
-stays : (b : Bool) (p : Passed) → b ≡ true → cond b (Some p) None ≡ Some p
-stays b p e = ap (λ z. cond z (Some p) None) e
-
-not_below : (index n : ℕ) → n ≤ index → not (ltb index n) ≡ true
-not_below index n above = let below : ltb index n ≡ false = grind (arith, nat_tests) in ap not below
-
-nothing_there : (s : Standing) (p : Passed) (space table : TableKind) (index : ℕ) → Agrees s p → NamesNothing s.tables space index → table ≢ Names
+nothing_there : (s : Standing) (p : Passed) (space table : TableKind) (index : ℕ) → Counts p (lists_of s.tables) → NamesNothing s.tables space index → table ≢ Names
     → (names_nothing p space index && holds_records table) ≡ true
-nothing_there s p Types table index a none other =
-    ap (λ b. b && holds_records table) (not_below index (records.index_at p.types) (omega (arith, a.types, none))) ∙ of_records table other
-nothing_there s p Items table index a none other =
-    ap (λ b. b && holds_records table) (not_below index (records.index_at p.items) (omega (arith, a.items, none))) ∙ of_records table other
-nothing_there s p Names table index a none other = absurd none
+nothing_there s p Types table index c none other = ap (λ b. b && holds_records table) (not_below index (records.index_at p.types) (omega (arith, c.types, none))) ∙ of_records table other
+nothing_there s p Items table index c none other = ap (λ b. b && holds_records table) (not_below index (records.index_at p.items) (omega (arith, c.items, none))) ∙ of_records table other
+nothing_there s p Names table index c none other = absurd none
 
-full_there : (x : Tables) (table : TableKind) (l : Limit) (size : ℕ) → IsRefusedFull x table l size → is_limit_of table l ≡ true
-full_there x Types limit.Records size f = refl
-full_there x Types limit.Bytes size f = refl
-full_there x Types limit.Names size f = absurd f
-full_there x Items limit.Records size f = refl
-full_there x Items limit.Bytes size f = refl
-full_there x Items limit.Names size f = absurd f
-full_there x Names limit.Records size f = absurd f
-full_there x Names limit.Bytes size f = absurd f
-full_there x Names limit.Names size f = refl
+limit_there : (table : TableKind) (l : Limit) → HasLimit table l → is_limit_of table l ≡ true
+limit_there table limit.Records has = of_records table has
+limit_there table limit.Bytes has = of_records table has
+limit_there table limit.Names has = ap (λ t. not (holds_records t)) has
 
-next_there : (o : Option ℕ) (number before : ℕ) → ((n : ℕ) → o ≡ Some n → n ≡ before) → number ≡ before + 1 → is_next o number ≡ true
-next_there None number before last e = refl
-next_there (Some n) number before last e = let same : n ≡ before = last n refl in eq-eqb number (n + 1) (omega arith)
+next_there : (o : Option ℕ) (number before : ℕ) (none : Type 0) → LastIs none before o → none ⊎ (number ≡ before + 1) → is_next o number ≡ true
+next_there None number before none last next = refl
+next_there (Some n) number before none last next = ⊎_elim (λ h. absurd (last.0 h)) (λ h. eq-eqb number (n + 1) (omega (arith, h, last.1))) next
 
-step : (s : Standing) (p : Passed) (c : ℕ) (d : Option Deed) (bytes : List ℕ) (final : Tables) → DeedFits s c d bytes → Agrees s p → Extends (after_deed s c d bytes).tables final
-    → Step (lists_of final) (after_deed s c d bytes) p c d
-step s p c None bytes final fits a extends = absurd fits
-step s p c (Some (Added Types at)) bytes final fits a extends = step_type s p c at bytes final fits a extends
-step s p c (Some (Added Items at)) bytes final fits a extends = step_item s p c at bytes final fits a extends
-step s p c (Some (Added Names at)) bytes final fits a extends = step_name s p c at bytes final fits a extends
-step s p c (Some (Asked table at)) bytes final fits a extends = record { further = p; fits = refl; agrees = a }
-step s p c (Some Counted) bytes final fits a extends = record { further = p; fits = refl; agrees = a }
-step s p c (Some (NotGiven index space table)) bytes final fits a extends = record {
-  further = p;
-  fits = stays (names_nothing p space index && holds_records table) p (nothing_there s p space table index a fits.1 fits.2);
-  agrees = a;
-}
-step s p c (Some (Full size l table)) bytes final fits a extends = record {
-  further = p;
-  fits = stays (is_limit_of table l) p (full_there s.tables table l size fits.1);
-  agrees = a;
-}
-step s p c (Some (Began number)) bytes final fits a extends =
-    let none : p.under_way ≡ None = a.commit ∙ ap opened_by fits.1 in
+step : (lists : Lists) (b : Basis) (before : List Entry) (e : Entry) (p : Passed) (d : Option Deed) → deed_of e.word ≡ d → Agrees b before p → DeedShows b before (caller e) d e.brought
+    → AreBeginnings (lists_of (after_deed (standing b before) (caller e) d e.brought).tables) lists → Step lists b before e p d
+step lists b before e p None is a shows reached = absurd shows
+step lists b before e p (Some (Added table at)) is a shows reached =
+    let f = add_passes lists (after b before) p table at e.brought shows a.counts reached in
+    record {
+      further = record p { types = f.types; items = f.items; names = f.names };
+      fits = f.fits;
+      agrees = record { counts = f.counts; last = last_kept before e (standing b before).number p.last (λ n began. let no : Some (Added table at) ≡ Some (Began n) = sym is ∙ began in cc) a.last; commit = a.commit };
+    }
+step lists b before e p (Some (Asked table at)) is a shows reached = stays lists b before e p (Some (Asked table at)) a is (λ n no. cc) refl refl
+step lists b before e p (Some Counted) is a shows reached = stays lists b before e p (Some Counted) a is (λ n no. cc) refl refl
+step lists b before e p (Some (NotGiven index space table)) is a shows reached =
+    stays lists b before e p (Some (NotGiven index space table)) a is (λ n no. cc) refl (if_true (names_nothing p space index && holds_records table) p (nothing_there (standing b before) p space table index a.counts shows.1 shows.2))
+step lists b before e p (Some (Full size l table)) is a shows reached =
+    stays lists b before e p (Some (Full size l table)) a is (λ n no. cc) refl (if_true (is_limit_of table l) p (limit_there table l shows.1))
+step lists b before e p (Some (Began number)) is a shows reached =
+    let c = caller e in
+    let s = standing b before in
+    let none : p.under_way ≡ None = a.commit ∙ ap opened_by shows.1 in
     let q : Passed = record p { last = Some number; under_way = Some (record { caller = c; number = number }) } in
     record {
       further = q;
-      fits = ap (λ o. cond (is_none o && is_next p.last number) (Some q) None) none ∙ ap (λ b. cond b (Some q) None) (next_there p.last number s.number a.last fits.2);
-      agrees = record { types = a.types; items = a.items; names = a.names; last = λ n e. sym (same_some number n e); commit = refl };
+      fits = ap (λ o. cond (is_none o && is_next p.last number) (Some q) None) none ∙ if_true (is_next p.last number) q (next_there p.last number s.number (NoneBegan before) a.last shows.2);
+      agrees = record { counts = record { types = a.counts.types; items = a.counts.items; names = a.counts.names }; last = (some_began before e number is, refl); commit = refl };
     }
-step s p c (Some (Ended number acknowledged)) bytes final fits a extends =
-    let there : p.under_way ≡ Some (record { caller = c; number = number }) = a.commit ∙ ap opened_by fits.1 in
+step lists b before e p (Some (Ended number acknowledged)) is a shows reached =
+    let c = caller e in
+    let there : p.under_way ≡ Some (record { caller = c; number = number }) = a.commit ∙ ap opened_by shows.1 in
     let q : Passed = record p { under_way = None } in
     record {
       further = q;
-      fits = ap (λ o. cond (is_open o c number) (Some q) None) there ∙ ap (λ b. cond (b && (number == number)) (Some q) None) (eq-eqb c c refl) ∙ ap (λ b. cond b (Some q) None) (eq-eqb number number refl);
-      agrees = record { types = a.types; items = a.items; names = a.names; last = a.last; commit = refl };
+      fits = ap (λ o. cond (is_open o c number) (Some q) None) there ∙ ap (λ b. cond (b && (number == number)) (Some q) None) (eq-eqb c c refl) ∙ if_true (number == number) q (eq-eqb number number refl);
+      agrees = record {
+        counts = record { types = a.counts.types; items = a.counts.items; names = a.counts.names };
+        last = last_kept before e (standing b before).number p.last (λ n began. let no : Some (Ended number acknowledged) ≡ Some (Began n) = sym is ∙ began in cc) a.last;
+        commit = refl;
+      };
     }
-step s p c (Some (Underway number)) bytes final fits a extends =
-    let there : p.under_way ≡ Some (record { caller = fits.1.0; number = number }) = a.commit ∙ ap opened_by fits.1.1 in
-    record {
-      further = p;
-      fits = ap (λ o. cond (is_open_number o number) (Some p) None) there ∙ ap (λ b. cond b (Some p) None) (eq-eqb number number refl);
-      agrees = a;
-    }
+step lists b before e p (Some (Underway number)) is a shows reached =
+    let there : p.under_way ≡ Some (record { caller = shows.1.0; number = number }) = a.commit ∙ ap opened_by shows.1.1 in
+    stays lists b before e p (Some (Underway number)) a is (λ n no. cc) refl
+    (ap (λ o. cond (is_open_number o number) (Some p) None) there ∙ if_true (number == number) p (eq-eqb number number refl))
 
--- at the end the lists are the final ones
-ends : (s : Standing) (p : Passed) → Agrees s p → is_end (lists_of s.tables) p ≡ true
-ends s p a =
-    ap (λ b. b && (p.items == length s.tables.items.records) && (p.names == length s.tables.names.names)) (eq-eqb p.types (length s.tables.types.records) a.types)
-    ∙ ap (λ b. b && (p.names == length s.tables.names.names)) (eq-eqb p.items (length s.tables.items.records) a.items) ∙ eq-eqb p.names (length s.tables.names.names) a.names
+-- an entry that shows that it fits
+pub step_entry : (lists : Lists) (b : Basis) (before : List Entry) (e : Entry) (p : Passed) → Agrees b before p → DeedShows b before (caller e) (deed_of e.word) e.brought → AreBeginnings (lists_of (after_entry (standing b before) e).tables) lists
+    → (q : Passed) × (behind lists p e.word ≡ Some q) × Agrees b (before ++ e ∷ []) q
+step_entry lists b before e p a shows reached =
+    let one = step lists b before e p (deed_of e.word) refl a shows reached in
+    (one.further, one.fits, subst (λ s. AgreesWith s (NoneBegan (before ++ e ∷ [])) one.further) (sym (standing_more b before e)) one.agrees)
 
-leads_on : (b : Basis) (h : List Entry) → IsLegal b h → (before rest : List Entry) → h ≡ before ++ rest → (p : Passed) → Agrees (standing b before) p → LeadsToTheEnd (lists_of (after b h)) p (words_of rest)
-leads_on b h legal before [] there p a =
+pub agrees_opened : (b : Basis) → Agrees b [] (started (counts_of b))
+agrees_opened b = record { counts = record { types = refl; items = refl; names = refl }; last = All-nil (λ (e : Entry). (number : ℕ) → deed_of e.word ≢ Some (Began number)); commit = refl }
+
+-- the code comes to the end of words that lead into the lists
+record Passes (lists : Lists) (b : Basis) (entries : List Entry) (p : Passed) (words : List ℕ) : Type 0 where
+  pub last : Passed
+  pub fits : behind_all lists p words ≡ Some last
+  pub agrees : Agrees b entries last
+
+pub reached_on : (x y : Tables) (lists : Lists) → Extends x y → AreBeginnings (lists_of y) lists → AreBeginnings (lists_of x) lists
+reached_on x y lists e r = record {
+  types = starts_on x.types.records y.types.records lists.types e.types r.types;
+  items = starts_on x.items.records y.items.records lists.items e.items r.items;
+  names = starts_on x.names.names y.names.names lists.names e.names r.names;
+}
+
+passes_on : (lists : Lists) (b : Basis) (h : List Entry) → IsShown b h → AreBeginnings (lists_of (after b h)) lists → (before rest : List Entry) → h ≡ before ++ rest → (p : Passed) → Agrees b before p → Passes lists b h p (words_of rest)
+passes_on lists b h shown reached before [] there p a =
     let same : before ≡ h = sym (there ∙ append-nil before) in
-    record { last = p; fits = refl; whole = subst (λ z. is_end (lists_of (after b z)) p ≡ true) same (ends (standing b before) p a) }
-leads_on b h legal before (e ∷ rest) there p a =
+    record { last = p; fits = refl; agrees = subst (λ z. Agrees b z p) same a }
+passes_on lists b h shown reached before (e ∷ rest) there p a =
     let on : h ≡ (before ++ e ∷ []) ++ rest = there ∙ sym (append_assoc before (e ∷ []) rest) in
-    let more = standing_more b before e in
     let extends : Extends (after b (before ++ e ∷ [])) (after b h) = subst (λ z. Extends (after b (before ++ e ∷ [])) (after b z)) (sym on) (extends_history b (before ++ e ∷ []) rest) in
-    let one : Step (lists_of (after b h)) (after_entry (standing b before) e) p (caller e) (deed_of e.word) =
-    step (standing b before) p (caller e) (deed_of e.word) e.brought (after b h) (legal.fits before e rest there).deed a (subst (λ (z : Standing). Extends z.tables (after b h)) more extends) in
-    let others = leads_on b h legal (before ++ e ∷ []) rest on one.further (subst (λ z. Agrees z one.further) (sym more) one.agrees) in
-    record {
-      last = others.last;
-      fits = ap (option_and_then (λ q. behind_all (lists_of (after b h)) q (words_of rest))) one.fits ∙ others.fits;
-      whole = others.whole;
-    }
+    let here = reached_on (after b (before ++ e ∷ [])) (after b h) lists extends reached in
+    let one = step_entry lists b before e p a (shown.shows before e rest there) (subst (λ (s : Standing). AreBeginnings (lists_of s.tables) lists) (standing_more b before e) here) in
+    let others = passes_on lists b h shown reached (before ++ e ∷ []) rest on one.0 one.2 in
+    record { last = others.last; fits = ap (option_and_then (λ q. behind_all lists q (words_of rest))) one.1 ∙ others.fits; agrees = others.agrees }
 
-pub leads : (b : Basis) (h : List Entry) → IsLegal b h → LeadsToTheEnd (lists_of (after b h)) (started (counts_of b)) (words_of h)
-leads b h legal = leads_on b h legal [] h refl (started (counts_of b)) (record { types = refl; items = refl; names = refl; last = λ n e. absurd cc; commit = refl })
+passes : (lists : Lists) (b : Basis) (h : List Entry) → IsShown b h → AreBeginnings (lists_of (after b h)) lists → Passes lists b h (started (counts_of b)) (words_of h)
+passes lists b h shown reached = passes_on lists b h shown reached [] h refl (started (counts_of b)) (agrees_opened b)
+
+-- So words that lead into the lists are let pass, and at the end of words that lead to them the lists are whole.
+
+pub into_passes : (start : ℕ × ℕ × ℕ) (words : List ℕ) (lists : Lists) → LeadsInto start words lists → (q : Passed) × (behind_all lists (started start) words ≡ Some q)
+into_passes start words lists i =
+    let k = i.leads in
+    let reached : AreBeginnings (lists_of (after k.basis k.entries)) lists = subst (λ z. AreBeginnings z lists) (sym k.lists) i.beginnings in
+    let h = passes lists k.basis k.entries k.shown reached in
+    (h.last, ap (λ z. behind_all lists (started z) words) (sym k.counts) ∙ ap (behind_all lists (started (counts_of k.basis))) (sym k.has_words) ∙ h.fits)
+
+pub self_reached : (lists : Lists) → AreBeginnings lists lists
+self_reached lists = record { types = starts_self lists.types; items = starts_self lists.items; names = starts_self lists.names }
+
+-- the code finds that the lists are whole
+pub ends : (lists : Lists) (p : Passed) → Counts p lists → is_end lists p ≡ true
+ends lists p c =
+    ap (λ b. b && (p.items == length lists.items) && (p.names == length lists.names)) (eq-eqb p.types (length lists.types) c.types)
+    ∙ ap (λ b. b && (p.names == length lists.names)) (eq-eqb p.items (length lists.items) c.items) ∙ eq-eqb p.names (length lists.names) c.names
+
+pub to_passes : (start : ℕ × ℕ × ℕ) (words : List ℕ) (lists : Lists) → LeadsTo start words lists → (q : Passed) × (behind_all lists (started start) words ≡ Some q) × (is_end lists q ≡ true)
+to_passes start words lists k =
+    let reached : AreBeginnings (lists_of (after k.basis k.entries)) lists = subst (λ z. AreBeginnings z lists) (sym k.lists) (self_reached lists) in
+    let h = passes lists k.basis k.entries k.shown reached in
+    (h.last, ap (λ z. behind_all lists (started z) words) (sym k.counts) ∙ ap (behind_all lists (started (counts_of k.basis))) (sym k.has_words) ∙ h.fits, ends lists h.last (subst (Counts h.last) k.lists h.agrees.counts))

@@ -1,4 +1,3 @@
-mod Behind
 mod Counting
 mod Places
 mod Searching
@@ -19,5 +18,9 @@ pub mod Replying
 pub mod Acknowledging
 pub mod Extending
 mod Smooth
-mod Replaying
+mod Placing
+mod Adding
 mod Leading
+mod Tracing
+mod Showing
+mod Behind

@@ -2,43 +2,14 @@
 use Rattle.std.proofs.Common.{◌≡◌, ◌≤◌, ◌<◌, ◌^◌, ◌+◌, ◌==◌, ℕ, Bool, true, false, cond, ltb, List, [], ◌∷◌, ◌++◌, length, Option, Some, None, Ok, Err, ◌⊎◌, inl, inr, ⊎_elim, refl, sym, ap, ◌∙◌, subst, arith, length-append}
 use Rattle.std.specs.Prelude.{◌&&◌, is_ok, is_none}
 use Rattle.std.specs.Option.{option_map, unwrap_or}
-use Rattle.std.specs.Str.{bytes_eq}
 use Rattle.std.proofs.lemmas.Bool.{cond-true, cond-false, eq-eqb, ne_eqb, ltb-true, ltb-false}
 use Rattle.std.proofs.lemmas.List.{append-nil}
-use Rattle.std.proofs.lemmas.Slice.Eq.{bytes_eq-Decides}
-use Rattle.std.proofs.lemmas.Grind.{common_steps}
 use Rattle.srv_edge.specs.Records.{joined}
 use Rattle.record_table.specs.declared.fault.AddFault.TheVariants.{Records, Bytes}
 use Rattle.record_table.specs.Table.{Table, after_add, answer_to_add, answer_to_new, appended, bytes_in, index_at, index_of, place_of}
 use Rattle.core_model.specs.History.{WithinLimits}
-
--- places
-
-place_within : (records : List (List ℕ)) (r : List ℕ) (p : ℕ) → place_of records r ≡ Some p → p < length records
-place_within [] r p e = absurd (grind arith)
-place_within (x ∷ records) r p e = go (bytes_eq x r) (place_of records r) (place_within records r) e where
-  go : (t : Bool) (o : Option ℕ) → ((q : ℕ) → o ≡ Some q → q < length records) → cond t (Some 0) (option_map (λ place. place + 1) o) ≡ Some p → p < length (x ∷ records)
-  go true o h e = grind (arith, common_steps)
-  go false None h e = absurd (grind arith)
-  go false (Some q) h e = let l : q < length records = h q refl in grind (arith, common_steps)
-
--- a record keeps its place when others come behind
-place_stays : (records : List (List ℕ)) (s r : List ℕ) (p : ℕ) → place_of records r ≡ Some p → place_of (records ++ s ∷ []) r ≡ Some p
-place_stays [] s r p e = absurd (grind arith)
-place_stays (x ∷ records) s r p e = go (bytes_eq x r) (place_of records r) (place_of (records ++ s ∷ []) r) (place_stays records s r) e where
-  go : (t : Bool) (o n : Option ℕ) → ((q : ℕ) → o ≡ Some q → n ≡ Some q) → cond t (Some 0) (option_map (λ place. place + 1) o) ≡ Some p → cond t (Some 0) (option_map (λ place. place + 1) n) ≡ Some p
-  go true o n h e = e
-  go false None n h e = absurd (grind arith)
-  go false (Some q) n h e = rw (h q refl) e
-
--- a new record has the place behind the last
-place_new : (records : List (List ℕ)) (r : List ℕ) → bytes_eq r r ≡ true → place_of records r ≡ None → place_of (records ++ r ∷ []) r ≡ Some (length records)
-place_new [] r same e = rw same refl
-place_new (x ∷ records) r same e = go (bytes_eq x r) (place_of records r) (place_of (records ++ r ∷ []) r) (place_new records r same) e where
-  go : (t : Bool) (o n : Option ℕ) → (o ≡ None → n ≡ Some (length records)) → cond t (Some 0) (option_map (λ place. place + 1) o) ≡ None → cond t (Some 0) (option_map (λ place. place + 1) n) ≡ Some (length (x ∷ records))
-  go true o n h e = absurd (grind arith)
-  go false (Some q) n h e = absurd (grind arith)
-  go false None n h e = rw (h refl) (grind arith)
+use Rattle.core_model.proofs.Counting.{place_of-within}
+use Rattle.core_model.proofs.Searching.{found_behind, place_on}
 
 -- adds
 
@@ -70,7 +41,7 @@ add_cases t r at e = go (index_of t r) refl e where
 old_below : (t : Table) (r : List ℕ) (at : ℕ) → index_of t r ≡ Some at → at < index_at (length t.records)
 old_below t r at e =
     let p = same_index (place_of t.records r) at e in
-    let l : p.0 < length t.records = place_within t.records r p.0 p.1 in
+    let l : p.0 < length t.records = place_of-within t.records r p.0 p.1 in
     omega arith
 
 -- the table with the record, where its index is the next
@@ -110,7 +81,7 @@ small_index t r at e w few = ⊎_elim (λ (o : index_of t r ≡ Some at). let l 
 pub index_stays : (t : Table) (s r : List ℕ) (at other : ℕ) → index_of t r ≡ Some at → index_of (grown t other s) r ≡ Some at
 index_stays t s r at other e = go (other == index_at (length t.records)) where
   kept : index_of (appended t s) r ≡ Some at
-  kept = let p = same_index (place_of t.records r) at e in ap (option_map index_at) (place_stays t.records s r p.0 p.1) ∙ ap Some (sym p.2)
+  kept = let p = same_index (place_of t.records r) at e in ap (option_map index_at) (place_on t.records (s ∷ []) r p.0 p.1) ∙ ap Some (sym p.2)
 
   go : (b : Bool) → index_of (cond b (appended t s) t) r ≡ Some at
   go true = kept
@@ -124,7 +95,7 @@ index_after t r at e = ⊎_elim (λ (o : index_of t r ≡ Some at). index_stays 
   no_place (Some p) n = absurd (grind arith)
 
   new : IsLast t r at → index_of (appended t r) r ≡ Some at
-  new l = ap (option_map index_at) (place_new t.records r ((bytes_eq-Decides r r).1 refl) (no_place (place_of t.records r) l.new)) ∙ ap Some (sym l.end)
+  new l = ap (option_map index_at) (found_behind t.records [] r (no_place (place_of t.records r) l.new)) ∙ ap Some (sym l.end)
 
 -- why an add was refused
 

@@ -10,3 +10,4 @@ pub mod World
 pub mod Law
 pub mod Plain
 pub mod Replay
+pub mod Steps

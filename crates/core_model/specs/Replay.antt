@@ -1,158 +1,29 @@
--- Which journal words are a history that leads from the first parts of three final lists to the whole lists.
-use Rattle.std.specs.Prelude.{◌≡◌, ◌+◌, ◌-◌, ◌/◌, ◌==◌, ◌&&◌, ◌^◌, ℕ, not, nat_lt, Bool, true, false, IsTrue, List, [], ◌∷◌, ◌++◌, length, Option, Some, None, is_none, option_and_then, if◌then◌else◌}
-use Rattle.std.specs.List.{slice_get}
-use Rattle.std.specs.Option.{option_map}
-use Rattle.record_table.specs.Table.{index_at, place_of}
+-- Which journal words are those of a history that leads from the first parts of three final lists to the whole lists.
+use Rattle.std.specs.Prelude.{◌≡◌, ◌≢◌, ◌<◌, ◌+◌, ◌⊎◌, ℕ, List, [], ◌∷◌, ◌++◌, length, take, All, Option, Some, None}
+use Rattle.std.specs.Option.{unwrap_or}
+use Rattle.record_table.specs.Table as records
+use Rattle.names_table.specs.Names as strings
 use Rattle.turnstile.specs.declared.history.Basis.{Basis}
 use Rattle.turnstile.specs.declared.history.Entry.{Entry}
+use Rattle.turnstile.specs.Histories.{caller}
 use Rattle.call_journal.specs.declared.deed.TableKind.{TableKind}
 use Rattle.call_journal.specs.declared.deed.TableKind.TheVariants.{Types, Items, Names}
 use Rattle.call_journal.specs.declared.deed.Limit.{Limit}
 use Rattle.call_journal.specs.declared.deed.Limit.TheVariants as limit
 use Rattle.call_journal.specs.declared.deed.Deed.{Deed}
-use Rattle.call_journal.specs.declared.deed.Deed.TheVariants.{Added, Asked, Counted, NotGiven, Full, Began, Ended, Underway}
+use Rattle.call_journal.specs.declared.deed.Deed.TheVariants.{Added, Full, Began}
 use Rattle.call_journal.specs.Words.{deed_of}
 use Rattle.core_model.specs.declared.call.Verdict.{Verdict}
 use Rattle.core_model.specs.declared.call.Verdict.TheVariants.{Legal, Illegal}
-use Rattle.core_model.specs.declared.passed.CommitOpen.{CommitOpen}
-use Rattle.core_model.specs.declared.passed.Passed.{Passed}
-use Rattle.core_model.specs.Tables.{Tables}
+use Rattle.core_model.specs.Tables.{Tables, item_count, type_count}
+use Rattle.core_model.specs.Cuts.{StartsWith}
+use Rattle.core_model.specs.History.{DeedFits, after, standing}
 
--- the final lists
+-- three lists: types, items and names
 pub record Lists : Type 0 where
   pub types : List (List ℕ)
   pub items : List (List ℕ)
   pub names : List (List ℕ)
-
--- How far the words before a place have come is a `Passed`: how many types, items and names are there, the last number
--- that began, and the commit that has begun and has not ended. At first no number has begun.
-abbrev pub started : ℕ × ℕ × ℕ → Passed
-started start = record { types = start.0; items = start.1; names = start.2; last = None; under_way = None }
-
--- whether a search found this very place
-abbrev pub is_place : ℕ → Option ℕ → Bool
-is_place place None = false
-is_place place (Some found) = found == place
-
--- whether something stands at a place of a list, and equals nothing before it
-abbrev pub is_first : List (List ℕ) → ℕ → Bool
-is_first list place = is_place place (option_and_then (place_of list) (slice_get list place))
-
--- Whether an answered add may give a place, where so many of the list are there: one of those, or the next, of something
--- that equals nothing before it.
-abbrev pub place_fits : List (List ℕ) → ℕ → Option ℕ → Bool
-place_fits list count None = false
-place_fits list count (Some place) = not (nat_lt count place) && is_first list place
-
--- how many are there behind it: one more, if it was the next
-abbrev pub count_with : ℕ → Option ℕ → ℕ
-count_with count None = count
-count_with count (Some place) = if place == count then count + 1 else count
-
--- the place of an index
-abbrev pub place_of_index : ℕ → Option ℕ
-place_of_index index = if nat_lt index 4096 then None else Some (index - 4096)
-
--- The place of the name that begins at an offset, if the first of all begins at `start`. An empty name does not count:
--- the empty name is at offset 0.
-abbrev pub place_of_offset : ℕ → List (List ℕ) → ℕ → Option ℕ
-place_of_offset start [] offset = None
-place_of_offset start (x ∷ names) offset =
-    if start == offset then (if length x == 0 then None else Some 0) else option_map (λ place. place + 1) (place_of_offset (start + length x + 1) names offset)
-
--- an answered add, of the table and with the index or offset that it gave
-abbrev pub behind_add : Lists → Passed → TableKind → ℕ → Option Passed
-behind_add lists p Types at =
-    let place = place_of_index at in if place_fits lists.types p.types place then Some (record p { types = count_with p.types place }) else None
-behind_add lists p Items at =
-    let place = place_of_index at in if place_fits lists.items p.items place then Some (record p { items = count_with p.items place }) else None
-behind_add lists p Names at =
-    if at == 0 then Some p
-    else let place = place_of_offset 1 lists.names at in if place_fits lists.names p.names place then Some (record p { names = count_with p.names place }) else None
-
--- whether an index names no record yet
-abbrev pub names_nothing : Passed → TableKind → ℕ → Bool
-names_nothing p Types index = not (nat_lt index (index_at p.types))
-names_nothing p Items index = not (nat_lt index (index_at p.items))
-names_nothing p Names index = false
-
-abbrev pub holds_records : TableKind → Bool
-holds_records Types = true
-holds_records Items = true
-holds_records Names = false
-
--- whether a table has such a limit
-abbrev pub is_limit_of : TableKind → Limit → Bool
-is_limit_of table limit.Records = holds_records table
-is_limit_of table limit.Bytes = holds_records table
-is_limit_of table limit.Names = not (holds_records table)
-
--- whether a number may begin: one more than the last, or any at first
-abbrev pub is_next : Option ℕ → ℕ → Bool
-is_next None number = true
-is_next (Some last) number = number == last + 1
-
--- whether this commit of this caller is under way
-abbrev pub is_open : Option CommitOpen → ℕ → ℕ → Bool
-is_open None caller number = false
-is_open (Some commit) caller number = (commit.caller == caller) && (commit.number == number)
-
--- whether a commit of this number is under way
-abbrev pub is_open_number : Option CommitOpen → ℕ → Bool
-is_open_number None number = false
-is_open_number (Some commit) number = commit.number == number
-
--- how far the words have come behind a deed of a caller, where it fits
-abbrev pub behind_deed : Lists → Passed → ℕ → Option Deed → Option Passed
-behind_deed lists p caller None = None
-behind_deed lists p caller (Some (Added table at)) = behind_add lists p table at
-behind_deed lists p caller (Some (Asked table at)) = Some p
-behind_deed lists p caller (Some Counted) = Some p
-behind_deed lists p caller (Some (NotGiven index space table)) = if names_nothing p space index && holds_records table then Some p else None
-behind_deed lists p caller (Some (Full size limit table)) = if is_limit_of table limit then Some p else None
-behind_deed lists p caller (Some (Began number)) =
-    if is_none p.under_way && is_next p.last number
-    then Some (record p { last = Some number; under_way = Some (record { caller = caller; number = number }) }) else None
-behind_deed lists p caller (Some (Ended number acknowledged)) = if is_open p.under_way caller number then Some (record p { under_way = None }) else None
-behind_deed lists p caller (Some (Underway number)) = if is_open_number p.under_way number then Some p else None
-
--- how far the words have come behind one more, where it fits
-abbrev pub behind : Lists → Passed → ℕ → Option Passed
-behind lists p word = behind_deed lists p (word / 2 ^ 56) (deed_of word)
-
--- how far these words come, where each fits
-abbrev pub behind_all : Lists → Passed → List ℕ → Option Passed
-behind_all lists p [] = Some p
-behind_all lists p (word ∷ words) = option_and_then (λ q. behind_all lists q words) (behind lists p word)
-
--- whether the lists that are there are the final ones
-abbrev pub is_end : Lists → Passed → Bool
-is_end lists p = (p.types == length lists.types) && (p.items == length lists.items) && (p.names == length lists.names)
-
--- Each word fits, and at the end the lists are the final ones.
-pub record LeadsToTheEnd (lists : Lists) (start : Passed) (words : List ℕ) : Type 0 where
-  pub last : Passed
-  pub fits : behind_all lists start words ≡ Some last
-  pub whole : IsTrue (is_end lists last)
-
--- nothing fits here: the next word does not, or where there is none the lists are not the final ones
-abbrev pub DoesNotFit : Lists → Passed → List ℕ → Type 0
-DoesNotFit lists p [] = is_end lists p ≡ false
-DoesNotFit lists p (word ∷ words) = behind lists p word ≡ None
-
--- The least place at which nothing fits: the words before it do.
-pub record IsFirstWrong (lists : Lists) (start : Passed) (words : List ℕ) (place : ℕ) : Type 0 where
-  pub before : List ℕ
-  pub rest : List ℕ
-  pub there : words ≡ before ++ rest
-  pub at : length before ≡ place
-  pub last : Passed
-  pub fits : behind_all lists start before ≡ Some last
-  pub wrong : DoesNotFit lists last rest
-
-abbrev pub IfIllegal : Verdict → (ℕ → Type 0) → Type 0
-IfIllegal Legal P = Unit {0}
-IfIllegal (Illegal at) P = P at
 
 -- the lists of tables
 abbrev pub lists_of : Tables → Lists
@@ -166,3 +37,71 @@ counts_of b = (length b.types, length b.items, length b.names)
 abbrev pub words_of : List Entry → List ℕ
 words_of [] = []
 words_of (e ∷ entries) = e.word ∷ words_of entries
+
+-- the index or offset of the first equal record or name, or else the next one
+abbrev pub first_or_next : Tables → TableKind → List ℕ → ℕ
+first_or_next x Types r = unwrap_or (records.index_of x.types r) (records.index_at (type_count x))
+first_or_next x Items r = unwrap_or (records.index_of x.items r) (records.index_at (item_count x))
+first_or_next x Names name = unwrap_or (strings.offset_of x.names name) (strings.bytes_of x.names.names)
+
+-- A table has such a limit: records have those of their number and of their bytes, and names have the third.
+abbrev pub HasLimit : TableKind → Limit → Type 0
+HasLimit table limit.Records = table ≢ Names
+HasLimit table limit.Bytes = table ≢ Names
+HasLimit table limit.Names = table ≡ Names
+
+-- no commit began in these entries
+abbrev pub NoneBegan : List Entry → Type 0
+NoneBegan entries = All (λ e. (number : ℕ) → deed_of e.word ≢ Some (Began number)) entries
+
+-- What a word shows of its deed's fit behind the entries before it. An answered add shows its index or offset; but not that
+-- there was room, nor that what it brought is a name, or a leaf whose fields name records. An add refused as full shows that
+-- its table has such a limit; but not that it was met. The first commit does not show that its number is the next. Any other
+-- deed shows that it fits.
+abbrev pub DeedShows : Basis → List Entry → ℕ → Option Deed → List ℕ → Type 0
+DeedShows b before c (Some (Added table at)) bytes = at ≡ first_or_next (after b before) table bytes
+DeedShows b before c (Some (Full size limit table)) bytes = (bytes ≡ []) × HasLimit table limit
+DeedShows b before c (Some (Began number)) bytes =
+    (bytes ≡ []) × ((standing b before).under_way ≡ None) × (NoneBegan before ⊎ (number ≡ (standing b before).number + 1))
+DeedShows b before c other bytes = DeedFits (standing b before) c other bytes
+
+-- Each word shows that it fits where it stands.
+pub record IsShown (b : Basis) (entries : List Entry) : Type 0 where
+  pub shows : (before : List Entry) (e : Entry) (rest : List Entry) → entries ≡ before ++ e ∷ rest → DeedShows b before (caller e) (deed_of e.word) e.brought
+
+-- Some history has these words, from lists with so many types, items and names, and leads to the final lists.
+pub record LeadsTo (start : ℕ × ℕ × ℕ) (words : List ℕ) (final : Lists) : Type 0 where
+  pub basis : Basis
+  pub entries : List Entry
+  pub counts : counts_of basis ≡ start
+  pub has_words : words_of entries ≡ words
+  pub shown : IsShown basis entries
+  pub lists : lists_of (after basis entries) ≡ final
+
+-- lists that are the beginnings of others
+pub record AreBeginnings (short long : Lists) : Type 0 where
+  pub types : StartsWith short.types long.types
+  pub items : StartsWith short.items long.items
+  pub names : StartsWith short.names long.names
+
+-- The words lead to beginnings of the final lists.
+pub record LeadsInto (start : ℕ × ℕ × ℕ) (words : List ℕ) (final : Lists) : Type 0 where
+  pub reached : Lists
+  pub leads : LeadsTo start words reached
+  pub beginnings : AreBeginnings reached final
+
+-- At this place the words are wrong: with the next one they no longer lead into the final lists; or there is no next one,
+-- and they do not lead to the whole lists.
+abbrev pub IsWrongAt : ℕ × ℕ × ℕ → List ℕ → Lists → ℕ → Type 0
+IsWrongAt start words final place =
+    ((place < length words) × ¬ LeadsInto start (take (place + 1) words) final) ⊎ ((place ≡ length words) × ¬ LeadsTo start words final)
+
+-- the least place at which they are wrong
+pub record IsFirstWrong (start : ℕ × ℕ × ℕ) (words : List ℕ) (final : Lists) (place : ℕ) : Type 0 where
+  pub wrong : IsWrongAt start words final place
+  pub least : (earlier : ℕ) → earlier < place → ¬ IsWrongAt start words final earlier
+
+-- what holds of the place, where the words are illegal
+abbrev pub IfIllegal : Verdict → (ℕ → Type 0) → Type 0
+IfIllegal Legal P = Unit {0}
+IfIllegal (Illegal at) P = P at

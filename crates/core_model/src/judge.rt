@@ -1,18 +1,16 @@
-ghost use Rattle.std.specs.Prelude.{◌≡◌, ◌<◌, ◌^◌, ◌↔◌, List, length};
-ghost use Rattle.turnstile.specs.declared.history.Basis.{Basis};
-ghost use Rattle.turnstile.specs.declared.history.Entry.{Entry};
-ghost use Rattle.core_model.specs.History.{IsLegal, after};
-ghost use Rattle.core_model.specs.Replay.{IfIllegal, IsFirstWrong, LeadsToTheEnd, counts_of, lists_of, started, words_of};
+ghost use Rattle.std.specs.Prelude.{◌≡◌, ◌<◌, ◌^◌, ◌↔◌, length};
+ghost use Rattle.core_model.specs.Replay.{IfIllegal, IsFirstWrong, LeadsTo};
 
 use crate::call::Verdict;
-use crate::passed::{Passed, behind, is_end};
+use crate::passed::{Passed, behind, has_start, is_end};
 use srv_edge::{RecordList, Text};
 
-/// Judges whether words are a legal history that leads from the first types, items and names, as many as
+/// Judges whether words are those of a history that leads from the first types, items and names, as many as
 /// `start` says, to the whole lists. It takes no memory.
 ///
-/// Of what a word cannot show it says nothing: that a record that was added is a leaf whose fields name
-/// records, that a limit was met, and which number the first commit has.
+/// Of what a word cannot show it says nothing: that what was added is a name, or a leaf whose fields name records,
+/// and that there was room for it; that a limit was met; and which number the first commit has. Where there are
+/// fewer types, items or names than `start` says, the words are wrong at place 0.
 ///
 /// Each word of an add searches its list from the front, so the time grows with the number of adds times the
 /// length of their list. Every other word takes the same time, wherever it stands.
@@ -24,9 +22,12 @@ pub fn replay(
     words: &[u64],
 ) -> Verdict
     requires { length words.now < 2 ^ 32 }
-    ensures legal { result ≡ Verdict.Legal ↔ LeadsToTheEnd (record { types = types.now; items = items.now; names = names.now }) (started start) words.now }
-    ensures least { IfIllegal result (IsFirstWrong (record { types = types.now; items = items.now; names = names.now }) (started start) words.now) }
+    ensures legal { result ≡ Verdict.Legal ↔ LeadsTo start words.now (record { types = types.now; items = items.now; names = names.now }) }
+    ensures least { IfIllegal result (IsFirstWrong start words.now (record { types = types.now; items = items.now; names = names.now })) }
 {
+    if !has_start(types, items, names, start) {
+        return Verdict::Illegal { at: 0 };
+    }
     let mut passed = Passed {
         types: start.0,
         items: start.1,
@@ -48,9 +49,3 @@ pub fn replay(
         }
     }
 }
-
-/// A law: the words of a legal history lead from the lists as opened to the lists behind it. So [`replay`]
-/// finds them legal.
-pub fn replayed()
-    ensures { (b : Basis) (h : List Entry) → IsLegal b h → LeadsToTheEnd (lists_of (after b h)) (started (counts_of b)) (words_of h) }
-{}

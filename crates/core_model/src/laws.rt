@@ -17,6 +17,7 @@ ghost use Rattle.core_model.specs.Files.{Commit, DeviceCall, MayLeave, Which, do
 ghost use Rattle.core_model.specs.History.{IsLegal, IsStart, after};
 ghost use Rattle.core_model.specs.Law.{AfterCrash, Always, EachAcknowledged, EachAdd, EachBeginning, EachCall, EachCommit, EachEvent, EachUnderWay, IsAcknowledged, add_to, entries_of, has_call, smooth_commit};
 ghost use Rattle.core_model.specs.Passes.{is_pass};
+ghost use Rattle.core_model.specs.Replay.{LeadsTo, counts_of, lists_of, words_of};
 ghost use Rattle.core_model.specs.World.{step, steps};
 
 /// The law. After any events, from any file that can be opened: the history is legal; what a pass has seen is
@@ -118,4 +119,10 @@ pub fn acknowledged()
     ensures newest { EachAcknowledged (λ b history front n rest. (c : Cut) → IsAllowed b history c → n ≤ c.number) }
     ensures nothing_lost { EachAcknowledged (λ b history front n rest. (c : Cut) → IsAllowed b history c → Extends (after b front) c.tables) }
     ensures survives { Always (λ w. (front : List Entry) (n : ℕ) (c : Cut) → IsAcknowledged w.history front n → MayLeave w.file c → Extends (after w.basis front) c.tables) }
+{}
+
+/// The words of a legal history lead from the lists as opened to the lists behind it. So [`replay`](crate::replay)
+/// finds them legal.
+pub fn replayed()
+    ensures { (b : Basis) (h : List Entry) → IsLegal b h → LeadsTo (counts_of b) (words_of h) (lists_of (after b h)) }
 {}

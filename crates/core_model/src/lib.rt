@@ -12,6 +12,6 @@ mod search;
 mod tests;
 
 pub use crate::call::{Call, Outcome, Verdict};
-pub use crate::judge::{replay, replayed};
-pub use crate::laws::{acknowledged, commits, events, reopening, replies, words, world};
+pub use crate::judge::replay;
+pub use crate::laws::{acknowledged, commits, events, reopening, replayed, replies, words, world};
 pub use crate::plain::PlainTable;

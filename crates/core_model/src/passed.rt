@@ -1,5 +1,5 @@
-ghost use Rattle.std.specs.Prelude.{◌≡◌, ◌<◌, ◌&&◌, length, IfSome, Some, None, is_none, if◌then◌else◌};
-ghost use Rattle.core_model.specs.Replay.{behind, behind_add, behind_deed, count_with, holds_records, is_end, is_first, is_limit_of, is_next, is_open, is_open_number, names_nothing, place_fits, place_of_index, place_of_offset};
+ghost use Rattle.std.specs.Prelude.{◌≡◌, ◌<◌, ◌↔◌, ◌&&◌, length, IfSome, IsTrue, Some, None, is_none, if◌then◌else◌};
+ghost use Rattle.core_model.specs.Steps.{HasStart, behind, behind_add, behind_deed, count_with, holds_records, is_end, is_first, is_limit_of, is_next, is_open, is_open_number, names_nothing, place_fits, place_of_index, place_of_offset};
 
 use crate::plain::FIRST_INDEX;
 use crate::search::{place_of, place_of_name};
@@ -22,6 +22,18 @@ pub(crate) struct Passed {
     pub(crate) names: usize,
     pub(crate) last: Option<u32>,
     pub(crate) under_way: Option<CommitOpen>,
+}
+
+/// Whether the lists have as many types, items and names as there were at first.
+pub(crate) fn has_start(
+    types: &RecordList,
+    items: &RecordList,
+    names: &[Text],
+    start: (u32, u32, u32),
+) -> bool
+    ensures { IsTrue result ↔ HasStart (record { types = types.now; items = items.now; names = names.now }) start }
+{
+    start.0 <= types.len() && start.1 <= items.len() && start.2 as usize <= names.len()
 }
 
 /// How far the words have come behind one more, where it fits.

@@ -147,8 +147,8 @@ fn words_changed_at_a_place(rt: HostRuntime) -> Result<(), Fail> {
 }
 
 // One word over lists that an opened file may hold, in which records, names and empty names are equal: `R` twice,
-// and the names '', 'a' and 'a' at 1, 2 and 4.
-static EQUALS: [((u32, u32, u32), u64, Verdict); 9] = [
+// and the names '', 'a' and 'a' at 1, 2 and 4. From starts past these lists no word leads into them.
+static EQUALS: [((u32, u32, u32), u64, Verdict); 12] = [
     ((2, 0, 3), 0x0001000000001000, Verdict::Legal),
     ((2, 0, 3), 0x0001000000001001, Verdict::Illegal { at: 0 }),
     ((1, 0, 3), 0x0001000000001001, Verdict::Illegal { at: 0 }),
@@ -158,6 +158,9 @@ static EQUALS: [((u32, u32, u32), u64, Verdict); 9] = [
     ((2, 0, 3), 0x0003000000000002, Verdict::Legal),
     ((2, 0, 3), 0x0003000000000004, Verdict::Illegal { at: 0 }),
     ((2, 0, 0), 0x0003000000000001, Verdict::Illegal { at: 0 }),
+    ((3, 0, 3), 0x0003000000000000, Verdict::Illegal { at: 0 }),
+    ((2, 1, 3), 0x0003000000000000, Verdict::Illegal { at: 0 }),
+    ((2, 0, 4), 0x0003000000000000, Verdict::Illegal { at: 0 }),
 ];
 
 #[test]

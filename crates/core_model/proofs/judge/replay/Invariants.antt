@@ -1,5 +1,5 @@
 use Rattle.std.proofs.Common.{◌≡◌, Some, take}
-use Rattle.core_model.specs.Replay.{behind_all, started}
+use Rattle.core_model.specs.Steps.{behind_all, started}
 use Rattle.core_model.proofs.judge.replay.Given as goal
 
 abbrev pub invariant-loop-at : goal.invariant-loop-at

@@ -1,6 +1,6 @@
 use Rattle.std.proofs.Common.{◌≡◌, ◌+◌, drop}
 use Rattle.std.specs.Option.{option_map}
-use Rattle.core_model.specs.Replay.{place_of_offset}
+use Rattle.core_model.specs.Steps.{place_of_offset}
 use Rattle.core_model.proofs.passed.place_of_offset.Given as goal
 
 abbrev pub invariant-loop-place : goal.invariant-loop-place
