@@ -13,6 +13,7 @@ pub data Which : Type 0 where
   older : Which
   pending : Which
 
+-- the cut that a crash leaves, if the file has it
 abbrev pub left : File → Which → Option Cut
 left (settled x) older = Some x
 left (settled x) pending = None
@@ -23,7 +24,7 @@ left (doubt x p) pending = Some p
 abbrev pub MayLeave : File → Cut → Type 0
 MayLeave file c = (which : Which) × (left file which ≡ Some c)
 
--- the cut on which the file certainly stands
+-- the cut that the file is settled on, or was before it came in doubt
 abbrev pub sure : File → Cut
 sure (settled x) = x
 sure (doubt x p) = x
@@ -80,6 +81,7 @@ progress new file switching_sync sync true = at_phase (settled new) done
 progress new file switching_sync sync false = at_phase file failed
 progress new file _ _ _ = None
 
+-- where a commit onto a file begins
 abbrev pub first_phase : File → Phase
 first_phase (settled x) = writing
 first_phase (doubt x p) = resolving

@@ -15,5 +15,6 @@ fresh c = record { seen = []; mine = [] }
 abbrev pub is_pass : ℕ → Bool
 is_pass c = nat_lt c 255
 
+-- the same, but for what this caller has seen
 abbrev pub with_view : (ℕ → Knowledge) → ℕ → Knowledge → ℕ → Knowledge
 with_view views c view d = if d == c then view else views d

@@ -11,12 +11,10 @@ use crate::call::{Call, Outcome};
 use crate::search::{bytes_of, name_at, offset_of, place_of};
 use index_fields::first_missing;
 use leaf_grammar::{Space, check};
+use record_table::FIRST_INDEX;
 use srv_edge::{Limits, RecordList, Refusal, Text};
 use std::alloc::{AllocError, Global};
 use std::marker::Model;
-
-/// The index of the first record of a table. Those below it are simple, and name no record.
-pub(crate) const FIRST_INDEX: u32 = 0x1000;
 
 /// The one-thread table over plain lists, each searched from its front: slow, to compare others with.
 #[derive(Drop)]
