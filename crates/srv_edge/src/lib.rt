@@ -5,6 +5,7 @@
 mod both;
 mod device;
 mod failed;
+mod faults;
 mod file;
 mod laws;
 mod link;
@@ -26,6 +27,7 @@ mod words;
 pub use crate::both::Both;
 pub use crate::device::Device;
 pub use crate::failed::{Failed, Limits, Refusal, SessionEnd};
+pub use crate::faults::FaultCount;
 pub use crate::file::FileDevice;
 pub use crate::laws::{images_keep_settled, one_reading};
 pub use crate::link::Link;

@@ -18,5 +18,5 @@ loop-sent-preserved g c =
           ∙ append_assoc was (take sent bytes) (take n (drop sent bytes)) ∙ ap (λ xs. was ++ xs) (sym (take_further sent n bytes));
       beside = c.give.ensures.beside ∙ c.loop-sent.invariant.beside;
       loans = c.give.ensures.loans ∙ c.loop-sent.invariant.loans;
-      never_falls = omega (arith, c.give.ensures.never_falls, c.loop-sent.invariant.never_falls);
+      never_falls = omega (arith, c.give.ensures.cause.never_falls, c.loop-sent.invariant.never_falls);
     }
