@@ -16,3 +16,4 @@ pub mod Contents
 pub mod Recorded
 pub mod Images
 pub mod Standard
+pub mod Exchange

@@ -9,12 +9,12 @@ use std::os::unix::fs::FileExt;
 /// A file of the system, such as a [`std::fs::File`] that is open for reading and writing. It tells
 /// no content.
 ///
-/// What the system does with the bytes is trusted. Of each call only its count is proved: it rises by
-/// one at each error, and at nothing else. An error is what the system answers so, a read past the
-/// end, and a head that the system takes in part. Reads and writes are positioned and go on where the
-/// system does a part of them; a head is one write of 56 bytes, which a crash is trusted to leave
-/// whole or not at all; a sync asks for data and length both. A read of no bytes asks nothing of the
-/// system.
+/// What the system does with the bytes is trusted. Of each call only its count is proved: it rises
+/// by one at each error, and at nothing else. An error is what the system answers so, a read past
+/// the end, and a head that the system takes in part. Reads and writes are positioned and go on
+/// where the system does a part of them; a head is one write of 56 bytes, which a crash is trusted
+/// to leave whole or not at all; a sync asks for data and length both. A read of no bytes asks
+/// nothing of the system.
 #[derive(Drop)]
 pub struct FileDevice<F> {
     file: Option<F>,

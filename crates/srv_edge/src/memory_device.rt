@@ -68,13 +68,15 @@ impl MemDevice {
     }
 
     /// One of the images after so many calls: each range that is not settled holds the fill, also
-    /// between an old end and a write behind it, and the heads that are not settled are all there or
-    /// none.
+    /// between an old end and a write behind it, and the heads that are not settled are all there
+    /// or none.
     pub fn image(&self, calls: u32, fill: u8, last_super: bool) -> Result<Vec<u8>, AllocError>
         requires { calls ≤ length (record_of self.now) }
-        ensures text { IfOk result (λ v. v.items ≡ image_of (state_at self.now calls) fill last_super) }
+        ensures text { IfOk result
+            (λ v. v.items ≡ image_of (state_at self.now calls) fill last_super) }
         ensures image { IfOk result (λ v. IsImageOf (state_at self.now calls) v.items) }
-        ensures left { IfOk result (λ v. ⟦<MemDevice as Device>⟧.left_since self.now calls v.items) }
+        ensures left { IfOk result
+            (λ v. ⟦<MemDevice as Device>⟧.left_since self.now calls v.items) }
     {
         let calls = &self.calls[..calls as usize];
         replayed(self.alloc, &self.file.first, calls, fill, last_super)
@@ -112,7 +114,8 @@ impl MemDevice {
     fn keep(&mut self, kind: CallKind, bytes: &[u8], done: bool) -> Result<(), Failed>
         requires end { place_of kind + length bytes.now ≤ 2 ^ 35 }
         requires leaves { (s : State) → (after_kind s kind bytes.now done).seen ≡ s.seen }
-        ensures kept { KeepsAs done self.old.calls.items kind bytes.now result self.new.calls.items }
+        ensures kept { KeepsAs done self.old.calls.items kind bytes.now result
+            self.new.calls.items }
         ensures file { self.new.file ≡ self.old.file }
         ensures counted { CountsIn self.old result self.new }
     {
@@ -169,7 +172,8 @@ impl Device for MemDevice {
 
     ghost told = { λ d c image. refl };
 
-    ghost seen_is_one = { λ d tells. seen_image d.file.first.items d.calls.items (shown d.file) d.shows };
+    ghost seen_is_one = { λ d tells. seen_image d.file.first.items d.calls.items (shown d.file)
+        d.shows };
 
     ghost counts_now = { λ d t c le image. left_now d.file.first.items d.calls.items t c le image };
 
@@ -200,7 +204,8 @@ impl Device for MemDevice {
         requires end { at + length bytes.now ≤ 2 ^ 35 }
         ensures kept { KeepsCall self.old (CallKind.Write at) bytes.now result self.new }
         ensures written { OnOk result (seen_by self.new ≡ spliced (seen_by self.old) at bytes.now) }
-        ensures crash { Follows (Torn at (length bytes.now)) (images_of self.old) (images_of self.new) }
+        ensures crash { Follows (Torn at (length bytes.now)) (images_of self.old)
+            (images_of self.new) }
         ensures time { TimeElapses self.old self.new }
     {
         self.change(CallKind::Write { at }, at as usize, bytes)

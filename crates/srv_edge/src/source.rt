@@ -29,7 +29,8 @@ pub trait Source {
         requires { 0 < length into.old }
         ensures bound { IfOk result (λ n. n ≤ length into.old) }
         ensures bytes { IsTrue tells
-            → Takes (given self.old) (left self.old) result into.new (given self.new) (left self.new) }
+            → Takes (given self.old) (left self.old) result into.new (given self.new)
+            (left self.new) }
         ensures beside { beside self.new ≡ beside self.old }
         ensures loans { loans self.new ≡ loans self.old }
         ensures below { faults self.new < 2 ^ 64 }

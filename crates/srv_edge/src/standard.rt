@@ -7,8 +7,8 @@ use crate::sink::Sink;
 use crate::source::Source;
 use std::io::{Read, Write};
 
-/// A reader of the system, such as standard input, as a source. It tells no content. Its count rises
-/// by one at each error of the system, and at nothing else.
+/// A reader of the system, such as standard input, as a source. It tells no content. Its count
+/// rises by one at each error of the system, and at nothing else.
 #[derive(Drop)]
 pub struct StdIn<R> {
     input: R,
@@ -43,8 +43,8 @@ impl<R: Read> Source for StdIn<R> {
     }
 }
 
-/// A writer of the system, such as standard output, as a sink. It tells no content. Its count rises by
-/// one at each error of the system and where the system takes nothing, and at nothing else.
+/// A writer of the system, such as standard output, as a sink. It tells no content. Its count rises
+/// by one at each error of the system and where the system takes nothing, and at nothing else.
 #[derive(Drop)]
 pub struct StdOut<W> {
     output: W,

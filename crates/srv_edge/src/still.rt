@@ -43,7 +43,8 @@ impl StillDevice {
     fn put(&mut self, at: usize, bytes: &[u8]) -> Result<(), Failed>
         requires { at + length bytes.now ≤ 2 ^ 35 }
         ensures fits { IsOk result ↔ (at + length bytes.now ≤ room_of self.old) }
-        ensures bytes { Leaves result self.old (spliced (still_bytes self.old) at bytes.now) self.new }
+        ensures bytes { Leaves result self.old (spliced (still_bytes self.old) at bytes.now)
+            self.new }
         ensures call { CallsStill self.old result self.new }
     {
         if at + bytes.len() > self.room {
@@ -77,7 +78,8 @@ impl Device for StillDevice {
 
     fn read(&mut self, at: u64, out: &mut [u8]) -> Result<(), Failed>
         ensures fits { IsOk result ↔ (at + length out.old ≤ length (still_bytes self.old)) }
-        ensures out { OnOk result (out.new ≡ take (length out.old) (drop at (still_bytes self.old))) }
+        ensures out { OnOk result
+            (out.new ≡ take (length out.old) (drop at (still_bytes self.old))) }
         ensures bytes { still_bytes self.new ≡ still_bytes self.old }
         ensures call { CallsStill self.old result self.new }
     {
@@ -92,7 +94,8 @@ impl Device for StillDevice {
     fn write(&mut self, at: u64, bytes: &[u8]) -> Result<(), Failed>
         requires end { at + length bytes.now ≤ 2 ^ 35 }
         ensures fits { IsOk result ↔ (at + length bytes.now ≤ room_of self.old) }
-        ensures bytes { Leaves result self.old (spliced (still_bytes self.old) at bytes.now) self.new }
+        ensures bytes { Leaves result self.old (spliced (still_bytes self.old) at bytes.now)
+            self.new }
         ensures call { CallsStill self.old result self.new }
     {
         self.put(at as usize, bytes)

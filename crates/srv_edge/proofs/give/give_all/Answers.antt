@@ -1,8 +1,9 @@
-use Rattle.std.proofs.Common.{◌++◌, take, drop, ap, sym, ◌∙◌, arith, append_assoc}
+use Rattle.std.proofs.Common.{◌++◌, take, drop, ap, sym, ◌∙◌, append_assoc, arith}
 use Rattle.std.proofs.lemmas.Grind.{common_steps}
 use Rattle.std.proofs.lemmas.List.{take_rest}
 use Rattle.srv_edge.proofs.Filling.{take_further}
-use Rattle.srv_edge.proofs.sink.give_all.Goals as goal
+use Rattle.srv_edge.proofs.Exchanging.{sink_goes_on}
+use Rattle.srv_edge.proofs.give.give_all.Goals as goal
 
 pub loop-sent-preserved : goal.loop-sent-preserved
 loop-sent-preserved g c =
@@ -16,7 +17,5 @@ loop-sent-preserved g c =
           c.in_ok-sent.ensures.bytes tells ∙ ap (λ xs. g.K.Sink.taken c.loop-sent.sink ++ take n xs) (take_rest bytes sent)
           ∙ ap (λ xs. xs ++ take n (drop sent bytes)) (c.loop-sent.invariant.went tells)
           ∙ append_assoc was (take sent bytes) (take n (drop sent bytes)) ∙ ap (λ xs. was ++ xs) (sym (take_further sent n bytes));
-      beside = c.give.ensures.beside ∙ c.loop-sent.invariant.beside;
-      loans = c.give.ensures.loans ∙ c.loop-sent.invariant.loans;
-      never_falls = omega (arith, c.give.ensures.cause.never_falls, c.loop-sent.invariant.never_falls);
+      calls = sink_goes_on c.loop-sent.invariant.calls (record { beside = c.give.ensures.beside; loans = c.give.ensures.loans; cause = record { never_falls = c.give.ensures.cause.never_falls; rose = λ no. absurd no } });
     }
