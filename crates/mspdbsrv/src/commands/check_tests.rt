@@ -1,6 +1,7 @@
 //! `check` over files in memory: the line of a file that reads, each damage once, and each call failing.
 
 use crate::device_of;
+use crate::plan::{Plan, plan_of};
 use crate::run::run;
 use crate::status::Status;
 use crate::word::Word;
