@@ -1,7 +1,7 @@
 //! `check` over files in memory: the line of a file that reads, each damage once, and each call failing.
 
 use crate::device_of;
-use crate::plan::{Plan, plan_of};
+use crate::plan::plan_of;
 use crate::run::run;
 use crate::status::Status;
 use crate::word::Word;
@@ -47,7 +47,7 @@ fn checked(
     let mut sink = MemSink::new(alloc, Vec::from_slice(alloc, sink_fails)?);
     let device = MemDevice::new(alloc, file, Vec::from_slice(alloc, device_fails)?);
     let words = words_of(alloc, "check", "P")?;
-    let (status, _) = run(alloc, keys, &words, &mut source, &mut sink, device);
+    let (status, _) = run(alloc, Some(keys), &words, &mut source, &mut sink, device);
     Ok((String::from_utf8_lossy(alloc, sink.taken())?, status))
 }
 
@@ -128,6 +128,7 @@ fn each_damage(rt: HostRuntime) -> Result<(), Fail> {
 // The small file is the packed file of its streams.
 #[test]
 fn packed_file(rt: HostRuntime) -> Result<(), Fail> {
+    let keys = RandomState::new(&rt)?;
     let mut streams = Vec::new(rt.alloc());
     streams.push(Text::new(Vec::new(rt.alloc())))?;
     streams.push(Text::new(Vec::from_slice(rt.alloc(), &[1, 2, 3])?))?;
@@ -203,35 +204,16 @@ fn no_file_and_no_form(rt: HostRuntime) -> Result<(), Fail> {
         let mut sink = MemSink::new(rt.alloc(), Vec::new(rt.alloc()));
         let words = words_of(rt.alloc(), command, path)?;
         let device: FileDevice<File> = FileDevice::absent();
-        let (status, _) = run(rt.alloc(), keys, &words, &mut source, &mut sink, device);
+        let (status, _) = run(
+            rt.alloc(),
+            Some(keys),
+            &words,
+            &mut source,
+            &mut sink,
+            device,
+        );
         assert_eq!(rt; status, want, "at {command} {path}");
         assert!(rt; sink.taken().is_empty());
-    }
-    Ok(())
-}
-
-// Each status has its exit code and its word.
-#[test]
-fn codes_and_words(rt: HostRuntime) -> Result<(), Fail> {
-    let damage = Status::Damage {
-        kind: DamageKind::MapAddr,
-        place: 52,
-    };
-    let rows = [
-        (Status::Ok, 0, "ok"),
-        (Status::Usage, 2, "usage"),
-        (Status::ReadFault, 3, "read fault"),
-        (Status::WriteFault, 4, "write fault"),
-        (Status::DiskFault, 5, "disk fault"),
-        (damage, 6, "damage map-addr 52"),
-        (Status::TooLong, 7, "too long"),
-        (Status::OutOfMemory, 8, "out of memory"),
-        (Status::CutShort, 9, "cut short"),
-        (Status::BadLength, 10, "bad length"),
-    ];
-    for (status, code, word) in rows {
-        assert_eq!(rt; status.code(), code);
-        assert_eq!(rt; format!(in rt.alloc(); "{status}")?.as_str(), word);
     }
     Ok(())
 }
@@ -242,15 +224,18 @@ fn checked_at(rt: &HostRuntime, path: &str) -> Result<(String, Status), Fail> {
     let mut source = MemSource::new(Vec::new(alloc), 1, Vec::new(alloc));
     let mut sink = MemSink::new(alloc, Vec::new(alloc));
     let words = words_of(alloc, "check", path)?;
-    let Ok(device) = device_of(rt, &words) else {
+    let Ok(plan) = plan_of(alloc, &words) else {
+        return Err(Fail::new("no form"));
+    };
+    let Ok(device) = device_of(rt, &plan) else {
         return Err(Fail::new("no memory"));
     };
     let keys = RandomState::new(rt)?;
-    let (status, _) = run(alloc, keys, &words, &mut source, &mut sink, device);
+    let (status, _) = run(alloc, Some(keys), &words, &mut source, &mut sink, device);
     Ok((String::from_utf8_lossy(alloc, sink.taken())?, status))
 }
 
-// A file of the system, a folder, and a path that is not there.
+// A file of the system, a folder, what is no regular file, and a path that is not there.
 #[test]
 fn files_of_the_system(rt: HostRuntime) -> Result<(), Fail> {
     let folder = std::env::temp_dir(&rt)?;
@@ -262,7 +247,9 @@ fn files_of_the_system(rt: HostRuntime) -> Result<(), Fail> {
     let (text, status) = checked_at(&rt, path.as_str())?;
     std::fs::remove_file(&rt, path.as_str())?;
     assert_eq!(rt; (text.as_str(), status), (WHOLE, Status::Ok));
-    let (text, status) = checked_at(&rt, folder.as_str())?;
-    assert_eq!(rt; (text.as_str(), status), ("", Status::DiskFault));
+    for path in [folder.as_str(), "/dev/null"] {
+        let (text, status) = checked_at(&rt, path)?;
+        assert_eq!(rt; (text.as_str(), status), ("", Status::DiskFault));
+    }
     Ok(())
 }

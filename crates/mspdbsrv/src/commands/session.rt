@@ -36,9 +36,7 @@ pub(crate) fn session<S: Source, K: Sink>(
         source.old source.new sink.old sink.new result }
 {
     match make_desk(alloc, keys) {
-        Ok((mut desk, mut room)) => {
-            status_of_end(serve(source, sink, &mut desk, &mut room))
-        }
+        Ok((mut desk, mut room)) => { status_of_end(serve(source, sink, &mut desk, &mut room)) }
         Err(_) => Status::OutOfMemory,
     }
 }

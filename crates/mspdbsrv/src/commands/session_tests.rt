@@ -5,27 +5,24 @@ ghost use Rattle.std.specs.Prelude.{◌<◌, ◌≡◌, true};
 use crate::run::run;
 use crate::status::Status;
 use crate::word::Word;
-use client_session::Bare;
-use request_frames::serve_link;
-use srv_edge::{Failed, FileDevice, Limits, MemLink, MemSink, MemSource, Room, SessionEnd, Sink};
+use srv_edge::{Failed, FileDevice, MemSink, MemSource, Sink};
 use std::alloc::Global;
 use std::fs::File;
 use std::hash::RandomState;
 use std::test::Fail;
 
 // A modifier of type 74 with attribute 1, as an AddType.
-const ADD: &str = "0d000000020a000110740000000100f2f1";
+const ADD: &str = "0d000000 02 0a000110 74000000 0100f2f1";
 
 const FIRST: &str = "050000008200100000";
 
 // Two of them, and their two replies.
 const TWO: &str = "0d000000020a000110740000000100f2f1 0d000000020a000110740000000100f2f1";
 
-const BYE_ADD: &str = "010000000a 0d000000020a000110740000000100f2f1";
-
-const ADD_COUNTS: &str = "0d000000020a000110740000000100f2f1 0100000009";
-
 const TWICE: &str = "050000008200100000050000008200100000";
+
+// A session's input comes in pieces of so many bytes and one more: in one piece, a byte each, and seven.
+const PIECES: [u8; 3] = [255, 0, 6];
 
 // A device that fails at every call, which a session never asks.
 fn no_file() -> FileDevice<File> {
@@ -61,7 +58,7 @@ fn talk(
     let mut source = source_of(alloc, input, usize::from(more) + 1, source_fails)?;
     let mut sink = MemSink::new(alloc, Vec::from_slice(alloc, sink_fails)?);
     let words = session_words(alloc)?;
-    let status = run(alloc, keys, &words, &mut source, &mut sink, no_file()).0;
+    let status = run(alloc, Some(keys), &words, &mut source, &mut sink, no_file()).0;
     Ok((hex::encode(alloc, sink.taken())?, status))
 }
 
@@ -72,24 +69,6 @@ fn packed(alloc: Global, text: &str) -> Result<String, Fail> {
         all.push_str(part)?;
     }
     Ok(all)
-}
-
-// Whether an input has these replies and ends so, in one piece and in pieces of a byte and of seven.
-fn talks(
-    alloc: Global,
-    keys: RandomState,
-    input: &str,
-    replies: &str,
-    status: Status,
-) -> Result<bool, Fail> {
-    let want = packed(alloc, replies)?;
-    for more in [255, 0, 6] {
-        let (text, got) = talk(alloc, keys, input, more, &[], &[])?;
-        if text.as_str() != want.as_str() || got != status {
-            return Ok(false);
-        }
-    }
-    Ok(true)
 }
 
 #[test]
@@ -182,10 +161,11 @@ fn records_by_their_bytes(rt: HostRuntime) -> Result<(), Fail> {
         ),
     ];
     for (input, replies, status) in rows {
-        assert!(rt;
-            talks(rt.alloc(), keys, input, replies, status)?,
-            "at {input:?}"
-        );
+        let want = packed(rt.alloc(), replies)?;
+        for more in PIECES {
+            let (text, got) = talk(rt.alloc(), keys, input, more, &[], &[])?;
+            assert_eq!(rt; (text.as_str(), got), (want.as_str(), status), "at {input}");
+        }
     }
     Ok(())
 }
@@ -235,10 +215,11 @@ fn leaves_by_their_bytes(rt: HostRuntime) -> Result<(), Fail> {
         ),
     ];
     for (input, replies, status) in rows {
-        assert!(rt;
-            talks(rt.alloc(), keys, input, replies, status)?,
-            "at {input:?}"
-        );
+        let want = packed(rt.alloc(), replies)?;
+        for more in PIECES {
+            let (text, got) = talk(rt.alloc(), keys, input, more, &[], &[])?;
+            assert_eq!(rt; (text.as_str(), got), (want.as_str(), status), "at {input}");
+        }
     }
     Ok(())
 }
@@ -291,10 +272,11 @@ fn items_and_names_by_their_bytes(rt: HostRuntime) -> Result<(), Fail> {
         ("0d000000020a000110", "", Status::CutShort),
     ];
     for (input, replies, status) in rows {
-        assert!(rt;
-            talks(rt.alloc(), keys, input, replies, status)?,
-            "at {input:?}"
-        );
+        let want = packed(rt.alloc(), replies)?;
+        for more in PIECES {
+            let (text, got) = talk(rt.alloc(), keys, input, more, &[], &[])?;
+            assert_eq!(rt; (text.as_str(), got), (want.as_str(), status), "at {input}");
+        }
     }
     Ok(())
 }
@@ -356,148 +338,40 @@ fn other_words_are_no_form(rt: HostRuntime) -> Result<(), Fail> {
     let mut source = source_of(rt.alloc(), ADD, 1000, &[])?;
     let mut sink = MemSink::new(rt.alloc(), Vec::new(rt.alloc()));
     let none = Vec::new(rt.alloc());
-    let status = run(rt.alloc(), keys, &none, &mut source, &mut sink, no_file()).0;
+    let status = run(
+        rt.alloc(),
+        Some(keys),
+        &none,
+        &mut source,
+        &mut sink,
+        no_file(),
+    )
+    .0;
     assert_eq!(rt; status, Status::Usage);
     let mut two = session_words(rt.alloc())?;
     two.push(Word::new(String::from_str(rt.alloc(), "P")?))?;
-    let status = run(rt.alloc(), keys, &two, &mut source, &mut sink, no_file()).0;
+    let status = run(
+        rt.alloc(),
+        Some(keys),
+        &two,
+        &mut source,
+        &mut sink,
+        no_file(),
+    )
+    .0;
     assert_eq!(rt; (status, status.code()), (Status::Usage, 2));
     let words = session_words(rt.alloc())?;
-    let status = run(rt.alloc(), keys, &words, &mut source, &mut sink, no_file()).0;
+    let status = run(
+        rt.alloc(),
+        Some(keys),
+        &words,
+        &mut source,
+        &mut sink,
+        no_file(),
+    )
+    .0;
     assert_eq!(rt; (status, status.code()), (Status::Ok, 0));
     assert_eq!(rt; hex::encode(rt.alloc(), sink.taken())?.as_str(), FIRST);
-    Ok(())
-}
-
-// How a link is served over empty tables up to a limit, and then to its end over the same tables; and all replies. The
-// source gives a byte and at most so many more in each call, and the sink fails at these calls.
-fn served_twice(
-    alloc: Global,
-    keys: RandomState,
-    input: &str,
-    more: u8,
-    limit: u64,
-    sink_fails: &[u32],
-) -> Result<(SessionEnd, SessionEnd, String), Fail> {
-    let mut link = MemLink {
-        source: source_of(alloc, input, usize::from(more) + 1, &[])?,
-        sink: MemSink::new(alloc, Vec::from_slice(alloc, sink_fails)?),
-    };
-    let mut desk = Bare::new(alloc, keys, Limits::STANDARD)?;
-    let mut room = Room::new(alloc)?;
-    let first = serve_link(&(), &mut link, &mut desk, limit, &mut room);
-    let second = serve_link(&(), &mut link, &mut desk, u64::MAX, &mut room);
-    Ok((first, second, hex::encode(alloc, link.sink.taken())?))
-}
-
-// A limit of one frame's length ends behind its reply, and a Bye within the limit comes first. What is behind an end is
-// not read. A reply goes before more is read, and a call counts whose reply cannot be sent.
-#[test]
-fn ends_of_a_kept_link(rt: HostRuntime) -> Result<(), Fail> {
-    let keys = RandomState::new(&rt)?;
-    let alloc = rt.alloc();
-    for more in [0, 255] {
-        let (first, second, replies) = served_twice(alloc, keys, ADD, more, 17, &[])?;
-        assert_eq!(rt; (first, second), (SessionEnd::TooLong, SessionEnd::Ended));
-        assert_eq!(rt; replies.as_str(), FIRST);
-        let (first, second, replies) = served_twice(alloc, keys, TWO, more, 17, &[])?;
-        assert_eq!(rt; (first, second), (SessionEnd::TooLong, SessionEnd::Ended));
-        assert_eq!(rt; replies.as_str(), TWICE);
-        let (first, second, replies) = served_twice(alloc, keys, BYE_ADD, more, 5, &[])?;
-        assert_eq!(rt; (first, second), (SessionEnd::Bye, SessionEnd::Ended));
-        assert_eq!(rt; replies.as_str(), "010000008a050000008200100000");
-        let (first, second, replies) = served_twice(alloc, keys, ADD_COUNTS, more, 100, &[0])?;
-        assert_eq!(rt;
-            (first, second),
-            (SessionEnd::WriteFault, SessionEnd::Ended)
-        );
-        assert_eq!(rt; replies.as_str(), "0d00000089010000000000000000000000");
-    }
-    Ok(())
-}
-
-// Two records of twelve bytes, and the first again.
-const THREE: &str = "0d000000020a000110740000000100f2f1 0d000000020a000110740000000100f1f1
-    0d000000020a000110740000000100f2f1";
-
-const NAMES: &str =
-    "020000000461 020000000462 020000000461 0100000004 050000000703000000 0100000009";
-
-// The replies over empty tables that hold so many records, bytes of records and bytes of names.
-fn talk_within(
-    alloc: Global,
-    keys: RandomState,
-    limits: (u8, u8, u8),
-    input: &str,
-) -> Result<String, Fail> {
-    let limits = Limits {
-        records: u32::from(limits.0),
-        bytes: u32::from(limits.1),
-        name_bytes: u32::from(limits.2).max(1),
-        calls: 1,
-        blocks: 9,
-    };
-    let mut link = MemLink {
-        source: source_of(alloc, input, 255, &[])?,
-        sink: MemSink::new(alloc, Vec::new(alloc)),
-    };
-    let mut desk = Bare::new(alloc, keys, limits)?;
-    let mut room = Room::new(alloc)?;
-    serve_link(&(), &mut link, &mut desk, u64::from(u32::MAX), &mut room);
-    Ok(hex::encode(alloc, link.sink.taken())?)
-}
-
-// Each limit is met at its number and refused one past it, with the number that would be needed; what
-// is there is still found.
-#[test]
-fn limits_at_their_numbers(rt: HostRuntime) -> Result<(), Fail> {
-    let keys = RandomState::new(&rt)?;
-    let rows = [
-        // two records, and the first again
-        (
-            (2, 24, 5),
-            THREE,
-            "050000008200100000 050000008201100000 050000008200100000",
-        ),
-        (
-            (1, 24, 5),
-            THREE,
-            "050000008200100000 0a000000ff060100000001000000 050000008200100000",
-        ),
-        (
-            (2, 23, 5),
-            THREE,
-            "050000008200100000 0a000000ff060200000018000000 050000008200100000",
-        ),
-        (
-            (2, 20, 5),
-            THREE,
-            "050000008200100000 0a000000ff060200000018000000 050000008200100000",
-        ),
-        // the names a and b, then a again, the empty name, b by its offset, and the counts
-        (
-            (2, 24, 5),
-            NAMES,
-            "050000008401000000 050000008403000000 050000008401000000 050000008400000000 020000008762
-             0d00000089000000000000000002000000",
-        ),
-        (
-            (2, 24, 4),
-            NAMES,
-            "050000008401000000 0a000000ff060300000005000000 050000008401000000 050000008400000000
-             0a000000ff050200000003000000 0d00000089000000000000000001000000",
-        ),
-        (
-            (2, 24, 3),
-            NAMES,
-            "050000008401000000 0a000000ff060300000005000000 050000008401000000 050000008400000000
-             0a000000ff050200000003000000 0d00000089000000000000000001000000",
-        ),
-    ];
-    for (limits, input, replies) in rows {
-        let got = talk_within(rt.alloc(), keys, limits, input)?;
-        assert_eq!(rt; got.as_str(), packed(rt.alloc(), replies)?.as_str());
-    }
     Ok(())
 }
 
@@ -536,7 +410,15 @@ fn one_byte_a_give(rt: HostRuntime) -> Result<(), Fail> {
         faults: 0,
     };
     let words = session_words(rt.alloc())?;
-    let status = run(rt.alloc(), keys, &words, &mut source, &mut sink, no_file()).0;
+    let status = run(
+        rt.alloc(),
+        Some(keys),
+        &words,
+        &mut source,
+        &mut sink,
+        no_file(),
+    )
+    .0;
     assert_eq!(rt; status, Status::Ok);
     let text = hex::encode(rt.alloc(), sink.taken.as_slice())?;
     assert_eq!(rt; text.as_str(), TWICE);
@@ -559,7 +441,7 @@ fn talk_of(
     let mut source = MemSource::new(bytes, 65_536, Vec::new(alloc));
     let mut sink = MemSink::new(alloc, Vec::new(alloc));
     let words = session_words(alloc)?;
-    let status = run(alloc, keys, &words, &mut source, &mut sink, no_file()).0;
+    let status = run(alloc, Some(keys), &words, &mut source, &mut sink, no_file()).0;
     Ok((hex::encode(alloc, sink.taken())?, status))
 }
 

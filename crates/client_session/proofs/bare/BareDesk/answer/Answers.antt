@@ -17,10 +17,10 @@ returns-in-Counts c =
     let names = c.self.inside.names.names in
     let x : Tables = record { types = c.self.inside.types; items = c.self.inside.items; names = c.self.inside.names } in
     let spelled =
-        c.write_counts.ensures
-        ∙ ap (λ n. frame_bytes (record { kind = 137; body = word_bytes n ++ word_bytes c.len-items.result ++ word_bytes c.len.result })) c.len-types.ensures.count
-        ∙ ap (λ n. frame_bytes (record { kind = 137; body = word_bytes (length types) ++ word_bytes n ++ word_bytes c.len.result })) c.len-items.ensures.count
-        ∙ ap (λ n. frame_bytes (record { kind = 137; body = word_bytes (length types) ++ word_bytes (length items) ++ word_bytes n })) c.len.ensures in
+    c.write_counts.ensures
+    ∙ ap (λ n. frame_bytes (record { kind = 137; body = word_bytes n ++ word_bytes c.len-items.result ++ word_bytes c.len.result })) c.len-types.ensures.count
+    ∙ ap (λ n. frame_bytes (record { kind = 137; body = word_bytes (length types) ++ word_bytes n ++ word_bytes c.len.result })) c.len-items.ensures.count
+    ∙ ap (λ n. frame_bytes (record { kind = 137; body = word_bytes (length types) ++ word_bytes (length items) ++ word_bytes n })) c.len.ensures in
     rw (c.in-Counts.is, ← c.self.view_is) (puts x _ (record { kind = 137; body = word_bytes (length types) ++ word_bytes (length items) ++ word_bytes (length names) }) _ x
     spelled (inl (refl, refl)) refl (inl refl))
 
