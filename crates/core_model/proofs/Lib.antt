@@ -20,3 +20,5 @@ mod Leading
 mod Tracing
 mod Showing
 mod Behind
+mod Idle
+pub mod Open

@@ -1,14 +1,21 @@
 -- What a call does for the pass that makes it, and what an event leaves to all others.
-use Rattle.std.proofs.Common.{◌≡◌, ◌≢◌, ◌-◌, ◌^◌, ◌==◌, ℕ, Bool, true, cond, ltb, [], ◌∷◌, ◌++◌, Option, Some, None, refl, sym, ap, ◌∙◌, subst}
+use Rattle.std.proofs.Common.{◌≡◌, ◌≢◌, ◌-◌, ◌^◌, ◌==◌, ℕ, Bool, true, cond, ltb, List, [], ◌∷◌, ◌++◌, Option, Some, None, refl, sym, ap, ◌∙◌, subst}
 use Rattle.std.specs.Prelude.{◌&&◌, is_none}
 use Rattle.std.specs.Option.{option_to_list}
 use Rattle.std.proofs.lemmas.Bool.{and_from, eq-eqb, eqb-true, ne_eqb}
 use Rattle.std.proofs.lemmas.List.{append-nil}
 use Rattle.turnstile.specs.declared.history.Entry.{Entry}
+use Rattle.record_table.specs.Table as records
+use Rattle.names_table.specs.Names as strings
+use Rattle.srv_edge.specs.declared.failed.Refusal.TheVariants.{NotGiven}
+use Rattle.call_journal.specs.declared.deed.Deed.{Deed}
+use Rattle.call_journal.specs.declared.deed.Deed.TheVariants.{Asked, Counted}
+use Rattle.call_journal.specs.declared.deed.TableKind.TheVariants.{Types, Items, Names}
 use Rattle.table_model.specs.declared.call.Call.{Call}
-use Rattle.table_model.specs.Calls.{answer, is_call}
+use Rattle.table_model.specs.declared.call.Call.TheVariants.{GetType, GetItem, GetName, Counts}
+use Rattle.table_model.specs.Calls.{answer, bytes_answer, is_call}
 use Rattle.core_model.specs.Law.{entries_of}
-use Rattle.core_model.specs.Entries.{entry_of_call}
+use Rattle.core_model.specs.Entries.{entry_of, entry_of_call, entry_of_read}
 use Rattle.core_model.specs.Events.{Event, asks_commit, begins, calls, calls_device, crashes, dies, ends, reopens, whose}
 use Rattle.core_model.specs.Files.{Commit, Phase, done, failed, resolving, resolving_sync, switching, switching_sync, writing}
 use Rattle.core_model.specs.Passes.{Knowledge, is_pass, with_view}
@@ -44,6 +51,27 @@ own w c call up pass is = ap (λ (v : World). (v.views c).mine) (step_called w c
 
 pub sees : (w : World) (c : ℕ) (call : Call) → w.crash ≡ None → is_pass c ≡ true → is_call call ≡ true → ((step w (calls c call)).views c).seen ≡ (step w (calls c call)).history
 sees w c call up pass is = subst (λ (v : World). (v.views c).seen ≡ v.history) (sym (step_called w c call up pass is)) (filed_seen w c (entry_of_call c call (answer (tables_now w) call)))
+
+-- a get or counts is kept, whatever it is answered
+
+read_kept : (c : ℕ) (deed : Deed) (found : Option (List ℕ)) (space index : ℕ) → entry_of_read c deed (bytes_answer found (NotGiven space index)) ≡ Some (entry_of c deed [])
+read_kept c deed None space index = refl
+read_kept c deed (Some bytes) space index = refl
+
+kept_as : (w : World) (c : ℕ) (call : Call) (e : Entry) → w.crash ≡ None → is_pass c ≡ true → is_call call ≡ true → entry_of_call c call (answer (tables_now w) call) ≡ Some e → (step w (calls c call)).history ≡ w.history ++ e ∷ []
+kept_as w c call e up pass is eq = answered w c call up pass is ∙ ap (λ o. w.history ++ option_to_list o) eq
+
+pub gets_type : (w : World) (c index : ℕ) → w.crash ≡ None → is_pass c ≡ true → is_call (GetType index) ≡ true → (step w (calls c (GetType index))).history ≡ w.history ++ entry_of c (Asked Types index) [] ∷ []
+gets_type w c index up pass is = kept_as w c (GetType index) _ up pass is (read_kept c (Asked Types index) (records.record_at (tables_now w).types index) 0 index)
+
+pub gets_item : (w : World) (c index : ℕ) → w.crash ≡ None → is_pass c ≡ true → is_call (GetItem index) ≡ true → (step w (calls c (GetItem index))).history ≡ w.history ++ entry_of c (Asked Items index) [] ∷ []
+gets_item w c index up pass is = kept_as w c (GetItem index) _ up pass is (read_kept c (Asked Items index) (records.record_at (tables_now w).items index) 1 index)
+
+pub gets_name : (w : World) (c offset : ℕ) → w.crash ≡ None → is_pass c ≡ true → is_call (GetName offset) ≡ true → (step w (calls c (GetName offset))).history ≡ w.history ++ entry_of c (Asked Names offset) [] ∷ []
+gets_name w c offset up pass is = kept_as w c (GetName offset) _ up pass is (read_kept c (Asked Names offset) (strings.name_at (tables_now w).names offset) 2 offset)
+
+pub counts : (w : World) (c : ℕ) → w.crash ≡ None → is_pass c ≡ true → (step w (calls c Counts)).history ≡ w.history ++ entry_of c Counted [] ∷ []
+counts w c up pass = kept_as w c Counts _ up pass refl refl
 
 -- all others
 

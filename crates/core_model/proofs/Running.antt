@@ -1,5 +1,5 @@
 -- What holds of the world is kept by each event.
-use Rattle.std.proofs.Common.{◌≡◌, ◌<◌, ◌^◌, ◌+◌, ◌-◌, ◌==◌, ℕ, Bool, true, false, cond, ltb, List, [], ◌∷◌, ◌++◌, Option, Some, None, refl, sym, ap, ◌∙◌, subst, inr, ⊎_elim, arith}
+use Rattle.std.proofs.Common.{◌≡◌, ◌<◌, ◌^◌, ◌+◌, ◌-◌, ◌==◌, ℕ, zero, suc, Bool, true, false, cond, ltb, List, [], ◌∷◌, ◌++◌, Option, Some, None, refl, sym, ap, ◌∙◌, subst, inr, ⊎_elim, arith}
 use Rattle.std.specs.Prelude.{◌&&◌, is_none}
 use Rattle.std.proofs.lemmas.Bool.{and_parts, ltb-true}
 use Rattle.std.proofs.lemmas.Option.{same_Some}
@@ -11,7 +11,7 @@ use Rattle.call_journal.specs.declared.deed.Deed.TheVariants.{Began, Ended, Unde
 use Rattle.call_journal.specs.Words.{IsDeed, deed_of}
 use Rattle.table_model.specs.declared.call.Call.{Call}
 use Rattle.table_model.specs.Calls.{answer, is_call}
-use Rattle.core_model.specs.History.{DeedFits, IsStart, Standing, after_deed, after_entry, standing}
+use Rattle.core_model.specs.History.{DeedFits, IsStart, Standing, after_deed, after_entry, number_at, standing}
 use Rattle.core_model.specs.Cuts.{IsAllowed, opened}
 use Rattle.table_model.specs.Cut.{Cut}
 use Rattle.core_model.specs.Entries.{entry_of, entry_of_call}
@@ -236,3 +236,19 @@ reopened_file w c others is h = ap (λ (v : World). v.file) (after_crash w c oth
 
 pub reopened_start : (w : World) (c : Cut) (others : List ℕ) → w.crash ≡ Some c → Holds w → IsStart (step w (reopens others)).basis
 reopened_start w c others is h = subst (λ (v : World). IsStart v.basis) (sym (after_crash w c others is)) (opens_start w.basis c others h.start (cut_of_crash w c is h))
+
+pub reopened_anew : (w : World) (c : Cut) (others : List ℕ) → w.crash ≡ Some c → step w (reopens others) ≡ opened_world (step w (reopens others)).basis
+reopened_anew w c others is = let e = after_crash w c others is in e ∙ ap (λ (v : World). opened_world v.basis) (sym e)
+
+limits_kept : (b : Basis) (c : Cut) (others : List ℕ) (place : ℕ) → 0 < place → place < 7 → number_at place (basis_of b c others) ≡ number_at place b
+limits_kept b c others zero above below = absurd (omega arith)
+limits_kept b c others (suc zero) above below = refl
+limits_kept b c others (suc (suc zero)) above below = refl
+limits_kept b c others (suc (suc (suc zero))) above below = refl
+limits_kept b c others (suc (suc (suc (suc zero)))) above below = refl
+limits_kept b c others (suc (suc (suc (suc (suc zero))))) above below = refl
+limits_kept b c others (suc (suc (suc (suc (suc (suc zero)))))) above below = refl
+limits_kept b c others (suc (suc (suc (suc (suc (suc (suc place))))))) above below = absurd (omega arith)
+
+pub reopened_limits : (w : World) (c : Cut) (others : List ℕ) → w.crash ≡ Some c → (place : ℕ) → 0 < place → place < 7 → number_at place (step w (reopens others)).basis ≡ number_at place w.basis
+reopened_limits w c others is place above below = ap (λ (v : World). number_at place v.basis) (after_crash w c others is) ∙ limits_kept w.basis c others place above below

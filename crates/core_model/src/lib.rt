@@ -10,6 +10,9 @@ mod tests;
 mod verdict;
 
 pub use crate::judge::replay;
-pub use crate::laws::{acknowledged, commits, events, reopening, replayed, replies, words, world};
+pub use crate::laws::{
+    acknowledged, commits, events, faults, grows, open_commits, reopening, replayed, replies,
+    words, world,
+};
 pub use crate::verdict::Verdict;
 pub use table_model::{Call, Outcome, PlainTable};
