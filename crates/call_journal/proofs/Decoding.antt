@@ -96,7 +96,7 @@ unfolding word_of
 parts_of caller deed is = has_parts caller (kind_of deed) (middle_of deed) (low_of deed) (small_kind deed) (small_middle deed) is
 
 -- a word tells its caller
-pub caller_of_word : (caller : ℕ) (deed : Deed) → IsDeed deed → word_of caller deed / 72057594037927936 ≡ caller
+pub caller_of_word : (caller : ℕ) (deed : Deed) → IsDeed deed → word_of caller deed / 2 ^ 56 ≡ caller
 caller_of_word caller deed is = (parts_of caller deed is).caller_is
 
 -- a word tells its deed
@@ -191,7 +191,7 @@ deed_back kind middle low deed e =
     chosen (at kind) middle 0 _ _ deed e (λ m f. subst (λ m. AreOf kind m low deed) (sym m) (plain_back kind low deed f)) (λ _ e. absurd (grind arith)))))
 
 -- a word is that of the caller and the deed that it tells
-pub word_of_deed : (word : ℕ) (deed : Deed) → deed_of word ≡ Some deed → word < 2 ^ 64 → word ≡ word_of (word / 72057594037927936) deed
+pub word_of_deed : (word : ℕ) (deed : Deed) → deed_of word ≡ Some deed → word < 2 ^ 64 → word ≡ word_of (word / 2 ^ 56) deed
 unfolding deed_of word_of
 word_of_deed word deed e lt =
     let p : AreOf (word / 2 ^ 48 % 256) (word / 2 ^ 32 % 65536) (word % 2 ^ 32) deed = deed_back (word / 2 ^ 48 % 256) (word / 2 ^ 32 % 65536) (word % 2 ^ 32) deed e in

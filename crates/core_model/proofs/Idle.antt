@@ -4,9 +4,9 @@ use Rattle.std.specs.Prelude.{◌&&◌, is_some}
 use Rattle.table_model.specs.Cut.{Cut}
 use Rattle.core_model.specs.Effects.{happens, has_call_now, has_effect, is_opening, is_over, is_over_for}
 use Rattle.core_model.specs.Events.{Event, asks_commit, begins, calls, calls_device, crashes, dies, ends, reopens}
-use Rattle.core_model.specs.Files.{Commit, DeviceCall, File, Phase, done, failed, left, progress, resolving, resolving_sync, switching, switching_sync, sync, write, write_super, writing}
+use Rattle.core_model.specs.Files.{Commit, DeviceCall, File, Phase, done, failed, cut_left, progress, resolving, resolving_sync, switching, switching_sync, sync, write, write_super, writing}
 use Rattle.core_model.specs.Law.{has_call}
-use Rattle.core_model.specs.World.{World, begun, called, ended, ended_in, progressed, refused_commit, run, step, step_from, worked}
+use Rattle.core_model.specs.World.{World, after_beginning, after_call, after_end, after_end_in, with_progress, after_refusal, run, step, step_from, after_device_call}
 
 -- a phase that does not have the call
 no_progress : (new : Cut) (f : File) (phase : Phase) (call : DeviceCall) (ok : Bool) → has_call phase call ≡ false → progress new f phase call ok ≡ None
@@ -18,20 +18,20 @@ no_progress new f switching write_super ok e = absurd cc
 no_progress new f switching_sync sync ok e = absurd cc
 no_progress new f _ call ok e = refl
 
-idle_worked : (w : World) (o : Option Commit) (call : DeviceCall) (ok : Bool) → has_call_now o call ≡ false → worked w o call ok ≡ w
+idle_worked : (w : World) (o : Option Commit) (call : DeviceCall) (ok : Bool) → has_call_now o call ≡ false → after_device_call w o call ok ≡ w
 idle_worked w None call ok e = refl
-idle_worked w (Some k) call ok e = ap (progressed w k) (no_progress k.cut w.file k.phase call ok e)
+idle_worked w (Some k) call ok e = ap (with_progress w k) (no_progress k.cut w.file k.phase call ok e)
 
 -- a commit that is not over
-idle_ended_in : (w : World) (k : Commit) (phase : Phase) → is_over phase ≡ false → ended_in w k phase ≡ w
+idle_ended_in : (w : World) (k : Commit) (phase : Phase) → is_over phase ≡ false → after_end_in w k phase ≡ w
 idle_ended_in w k done e = absurd cc
 idle_ended_in w k failed e = absurd cc
 idle_ended_in w k _ e = refl
 
-idle_ended : (w : World) (o : Option Commit) (c : ℕ) → is_over_for o c ≡ false → ended w c o ≡ w
+idle_ended : (w : World) (o : Option Commit) (c : ℕ) → is_over_for o c ≡ false → after_end w c o ≡ w
 idle_ended w None c e = refl
 idle_ended w (Some k) c e = go (k.caller == c) e where
-  go : (t : Bool) → (t && is_over k.phase) ≡ false → cond t (ended_in w k k.phase) w ≡ w
+  go : (t : Bool) → (t && is_over k.phase) ≡ false → cond t (after_end_in w k k.phase) w ≡ w
   go true e = idle_ended_in w k k.phase e
   go false e = refl
 
@@ -40,13 +40,13 @@ no_cut None e = refl
 no_cut (Some c) e = absurd cc
 
 idle_run : (w : World) (event : Event) → w.crash ≡ None → has_effect w event ≡ false → run w event ≡ w
-idle_run w (calls c call) up e = ap (λ t. cond t (called w c call) w) e
-idle_run w (asks_commit c) up e = ap (λ t. cond t (refused_commit w c w.commit) w) e
-idle_run w (begins c) up e = ap (λ t. cond t (begun w c) w) e
+idle_run w (calls c call) up e = ap (λ t. cond t (after_call w c call) w) e
+idle_run w (asks_commit c) up e = ap (λ t. cond t (after_refusal w c w.commit) w) e
+idle_run w (begins c) up e = ap (λ t. cond t (after_beginning w c) w) e
 idle_run w (calls_device call ok) up e = idle_worked w w.commit call ok e
 idle_run w (ends c) up e = idle_ended w w.commit c e
 idle_run w (dies c) up e = refl
-idle_run w (crashes which) up e = ap (λ o. record w { crash = o }) (no_cut (left w.file which) e ∙ sym up)
+idle_run w (crashes which) up e = ap (λ o. record w { crash = o }) (no_cut (cut_left w.file which) e ∙ sym up)
 idle_run w (reopens others) up e = refl
 
 idle_behind : (w : World) (c : Cut) (event : Event) → is_opening event ≡ false → step_from (Some c) w event ≡ w

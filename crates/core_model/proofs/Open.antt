@@ -104,7 +104,7 @@ pub allowed_on : (b : Basis) (h more : List Entry) (c : Cut) → AreCalls more �
 allowed_on b h [] c quiet a = subst (λ z. IsAllowed b z c) (sym (append-nil h)) a
 allowed_on b h (e ∷ more) c quiet a =
     let head = All-head IsNoCommit e more quiet in
-    let next = allowed_more b h c e (λ m at. absurd (head.ends_none m true at)) a in
+    let next = allowed_more b h c e (λ m at. head.ends_none m true at) a in
     subst (λ z. IsAllowed b z c) (append_assoc h (e ∷ []) more) (allowed_on b (h ++ e ∷ []) more c (All-tail IsNoCommit e more quiet) next)
 
 -- faulted ends

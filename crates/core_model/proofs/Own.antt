@@ -19,7 +19,7 @@ use Rattle.core_model.specs.Entries.{entry_of, entry_of_call, entry_of_read}
 use Rattle.core_model.specs.Events.{Event, asks_commit, begins, calls, calls_device, crashes, dies, ends, reopens, whose}
 use Rattle.core_model.specs.Files.{Commit, Phase, done, failed, resolving, resolving_sync, switching, switching_sync, writing}
 use Rattle.core_model.specs.Passes.{Knowledge, is_pass, with_view}
-use Rattle.core_model.specs.World.{World, begun, called, ended, ended_in, filed, filed_or_looked, number_now, refused_commit, run, step, step_from, tables_now}
+use Rattle.core_model.specs.World.{World, after_beginning, after_call, after_end, after_end_in, with_entry, with_entry_or_look, number_now, after_refusal, run, step, step_from, tables_now}
 use Rattle.core_model.proofs.Later.{seen_worked}
 use Rattle.core_model.proofs.Running.{chosen}
 
@@ -28,18 +28,18 @@ use Rattle.core_model.proofs.Running.{chosen}
 own_view : (views : ℕ → Knowledge) (c : ℕ) (v : Knowledge) → with_view views c v c ≡ v
 own_view views c v = ap (λ t. cond t v (views c)) (eq-eqb c c refl)
 
-step_called : (w : World) (c : ℕ) (call : Call) → w.crash ≡ None → is_pass c ≡ true → is_call call ≡ true → step w (calls c call) ≡ called w c call
-step_called w c call up pass is = ap (λ o. step_from o w (calls c call)) up ∙ ap (λ t. cond t (called w c call) w) (and_from (is_pass c) (is_call call) pass is)
+step_called : (w : World) (c : ℕ) (call : Call) → w.crash ≡ None → is_pass c ≡ true → is_call call ≡ true → step w (calls c call) ≡ after_call w c call
+step_called w c call up pass is = ap (λ o. step_from o w (calls c call)) up ∙ ap (λ t. cond t (after_call w c call) w) (and_from (is_pass c) (is_call call) pass is)
 
-filed_history : (w : World) (c : ℕ) (o : Option Entry) → (filed_or_looked w c o).history ≡ w.history ++ option_to_list o
+filed_history : (w : World) (c : ℕ) (o : Option Entry) → (with_entry_or_look w c o).history ≡ w.history ++ option_to_list o
 filed_history w c None = sym (append-nil w.history)
 filed_history w c (Some e) = refl
 
-filed_mine : (w : World) (c : ℕ) (o : Option Entry) → ((filed_or_looked w c o).views c).mine ≡ (w.views c).mine ++ option_to_list o
+filed_mine : (w : World) (c : ℕ) (o : Option Entry) → ((with_entry_or_look w c o).views c).mine ≡ (w.views c).mine ++ option_to_list o
 filed_mine w c None = ap (λ (v : Knowledge). v.mine) (own_view w.views c (record { seen = w.history; mine = (w.views c).mine })) ∙ sym (append-nil (w.views c).mine)
 filed_mine w c (Some e) = ap (λ (v : Knowledge). v.mine) (own_view w.views c (record { seen = w.history ++ e ∷ []; mine = (w.views c).mine ++ e ∷ [] }))
 
-pub filed_seen : (w : World) (c : ℕ) (o : Option Entry) → ((filed_or_looked w c o).views c).seen ≡ (filed_or_looked w c o).history
+pub filed_seen : (w : World) (c : ℕ) (o : Option Entry) → ((with_entry_or_look w c o).views c).seen ≡ (with_entry_or_look w c o).history
 filed_seen w c None = ap (λ (v : Knowledge). v.seen) (own_view w.views c (record { seen = w.history; mine = (w.views c).mine }))
 filed_seen w c (Some e) = ap (λ (v : Knowledge). v.seen) (own_view w.views c (record { seen = w.history ++ e ∷ []; mine = (w.views c).mine ++ e ∷ [] }))
 
@@ -78,18 +78,18 @@ counts w c up pass = kept_as w c Counts _ up pass refl refl
 other_view : (views : ℕ → Knowledge) (c : ℕ) (v : Knowledge) (d : ℕ) → c ≢ d → with_view views c v d ≡ views d
 other_view views c v d other = ap (λ t. cond t v (views d)) (ne_eqb d c (λ same. other (sym same)))
 
-others_filed : (w : World) (c : ℕ) (e : Entry) (d : ℕ) → c ≢ d → (filed w c e).views d ≡ w.views d
+others_filed : (w : World) (c : ℕ) (e : Entry) (d : ℕ) → c ≢ d → (with_entry w c e).views d ≡ w.views d
 others_filed w c e d other = other_view w.views c (record { seen = w.history ++ e ∷ []; mine = (w.views c).mine ++ e ∷ [] }) d other
 
-others_called : (w : World) (c : ℕ) (o : Option Entry) (d : ℕ) → c ≢ d → (filed_or_looked w c o).views d ≡ w.views d
+others_called : (w : World) (c : ℕ) (o : Option Entry) (d : ℕ) → c ≢ d → (with_entry_or_look w c o).views d ≡ w.views d
 others_called w c None d other = other_view w.views c (record { seen = w.history; mine = (w.views c).mine }) d other
 others_called w c (Some e) d other = others_filed w c e d other
 
-others_refused : (w : World) (c : ℕ) (o : Option Commit) (d : ℕ) → c ≢ d → (refused_commit w c o).views d ≡ w.views d
+others_refused : (w : World) (c : ℕ) (o : Option Commit) (d : ℕ) → c ≢ d → (after_refusal w c o).views d ≡ w.views d
 others_refused w c None d other = other_view w.views c (record { seen = w.history; mine = (w.views c).mine }) d other
 others_refused w c (Some k) d other = others_filed w c _ d other
 
-others_ended_in : (w : World) (k : Commit) (phase : Phase) (d : ℕ) → k.caller ≢ d → (ended_in w k phase).views d ≡ w.views d
+others_ended_in : (w : World) (k : Commit) (phase : Phase) (d : ℕ) → k.caller ≢ d → (after_end_in w k phase).views d ≡ w.views d
 others_ended_in w k done d other = others_filed w k.caller _ d other
 others_ended_in w k failed d other = others_filed w k.caller _ d other
 others_ended_in w k resolving d other = refl
@@ -101,14 +101,14 @@ others_ended_in w k switching_sync d other = refl
 others_if : (t : Bool) (v w : World) (d : ℕ) → (t ≡ true → v.views d ≡ w.views d) → (cond t v w).views d ≡ w.views d
 others_if t v w d same = chosen (λ u. u.views d ≡ w.views d) t v w same refl
 
-others_ended : (w : World) (c : ℕ) (o : Option Commit) (d : ℕ) → c ≢ d → (ended w c o).views d ≡ w.views d
+others_ended : (w : World) (c : ℕ) (o : Option Commit) (d : ℕ) → c ≢ d → (after_end w c o).views d ≡ w.views d
 others_ended w c None d other = refl
-others_ended w c (Some k) d other = others_if (k.caller == c) (ended_in w k k.phase) w d (λ t. others_ended_in w k k.phase d (λ same. other (sym (eqb-true k.caller c t) ∙ same)))
+others_ended w c (Some k) d other = others_if (k.caller == c) (after_end_in w k k.phase) w d (λ t. others_ended_in w k k.phase d (λ same. other (sym (eqb-true k.caller c t) ∙ same)))
 
 others_run : (w : World) (event : Event) (d : ℕ) → whose event ≢ Some d → (run w event).views d ≡ w.views d
-others_run w (calls c call) d other = others_if (is_pass c && is_call call) (called w c call) w d (λ t. others_called w c (entry_of_call c call (answer (tables_now w) call)) d (λ same. other (ap Some same)))
-others_run w (asks_commit c) d other = others_if (is_pass c) (refused_commit w c w.commit) w d (λ t. others_refused w c w.commit d (λ same. other (ap Some same)))
-others_run w (begins c) d other = others_if (is_pass c && is_none w.commit && ltb (number_now w) (2 ^ 32 - 1)) (begun w c) w d (λ t. others_filed w c _ d (λ same. other (ap Some same)))
+others_run w (calls c call) d other = others_if (is_pass c && is_call call) (after_call w c call) w d (λ t. others_called w c (entry_of_call c call (answer (tables_now w) call)) d (λ same. other (ap Some same)))
+others_run w (asks_commit c) d other = others_if (is_pass c) (after_refusal w c w.commit) w d (λ t. others_refused w c w.commit d (λ same. other (ap Some same)))
+others_run w (begins c) d other = others_if (is_pass c && is_none w.commit && ltb (number_now w) (2 ^ 32 - 1)) (after_beginning w c) w d (λ t. others_filed w c _ d (λ same. other (ap Some same)))
 others_run w (calls_device call ok) d other = ap (λ views. views d) (seen_worked w w.commit call ok)
 others_run w (ends c) d other = others_ended w c w.commit d (λ same. other (ap Some same))
 others_run w (dies c) d other = refl

@@ -11,7 +11,7 @@ use Rattle.core_model.specs.Events.{Event, calls_device, ends}
 use Rattle.core_model.specs.Files.{File, Phase, doubt, first_phase, settled, sync, write_super, writing}
 use Rattle.core_model.specs.Law.{next_cut, settling, smooth_commit, writes}
 use Rattle.core_model.specs.Passes.{Knowledge, is_pass}
-use Rattle.core_model.specs.World.{World, begun, filed, number_now, steps}
+use Rattle.core_model.specs.World.{World, after_beginning, with_entry, number_now, steps}
 use Rattle.core_model.proofs.Committing.{step_begun}
 
 -- a world in which a commit is under way, and no crash has come
@@ -48,10 +48,10 @@ smooth w c blocks up pass idle few = subst (IsSmooth w c) (sym (ap (λ v. steps 
   e = entry_of c (Began (number_now w + 1)) []
 
   v : World
-  v = under_way w.basis (w.history ++ e ∷ []) (filed w c e).views c (next_cut w) (first_phase w.file) w.file
+  v = under_way w.basis (w.history ++ e ∷ []) (with_entry w c e).views c (next_cut w) (first_phase w.file) w.file
 
-  seen : begun w c ≡ v
+  seen : after_beginning w c ≡ v
   seen = ap (λ o. record v { crash = o }) up
 
   last : IsAcknowledging (w.history ++ e ∷ []) c (next_cut w) (steps v rest)
-  last = resolved_so w.basis (w.history ++ e ∷ []) (filed w c e).views c (next_cut w) blocks w.file
+  last = resolved_so w.basis (w.history ++ e ∷ []) (with_entry w c e).views c (next_cut w) blocks w.file

@@ -2,7 +2,7 @@
 use Rattle.std.specs.Prelude.{◌-◌, ◌^◌, ◌==◌, ◌&&◌, ℕ, nat_lt, Bool, true, false, is_none, is_some, Option, Some, None, if◌then◌else◌}
 use Rattle.table_model.specs.Calls.{is_call}
 use Rattle.core_model.specs.Events.{Event, asks_commit, begins, calls, calls_device, crashes, dies, ends, reopens}
-use Rattle.core_model.specs.Files.{Commit, DeviceCall, Phase, done, failed, left}
+use Rattle.core_model.specs.Files.{Commit, DeviceCall, Phase, done, failed, cut_left}
 use Rattle.core_model.specs.Law.{has_call}
 use Rattle.core_model.specs.Passes.{is_pass}
 use Rattle.core_model.specs.World.{World, number_now}
@@ -31,7 +31,7 @@ has_effect w (begins c) = is_pass c && is_none w.commit && nat_lt (number_now w)
 has_effect w (calls_device call ok) = has_call_now w.commit call
 has_effect w (ends c) = is_over_for w.commit c
 has_effect w (dies c) = false
-has_effect w (crashes which) = is_some (left w.file which)
+has_effect w (crashes which) = is_some (cut_left w.file which)
 has_effect w (reopens others) = false
 
 abbrev pub is_opening : Event → Bool

@@ -14,7 +14,7 @@ ghost use Rattle.table_model.specs.declared.call.Call.TheVariants.{GetType, GetI
 ghost use Rattle.table_model.specs.declared.call.Outcome.TheVariants.{Index};
 ghost use Rattle.table_model.specs.Calls.{answer, is_call, tables_after};
 ghost use Rattle.table_model.specs.Cut.{Cut};
-ghost use Rattle.core_model.specs.Cuts.{AcknowledgesNoOther, BeganAt, Extends, IsAllowed, cut_at, opened};
+ghost use Rattle.core_model.specs.Cuts.{AcknowledgesNoOther, BeganAt, Extends, IsAllowed, cut_at, opened_cut};
 ghost use Rattle.core_model.specs.Effects.{happens};
 ghost use Rattle.core_model.specs.Entries.{entry_of, entry_of_call};
 ghost use Rattle.core_model.specs.Events.{Event, asks_commit, begins, calls, calls_device, crashes, dies, ends, whose};
@@ -129,7 +129,7 @@ pub fn reopening()
         (which : Which) × ((step w (crashes which)).crash ≡ Some c)) }
     ensures allowed { AfterCrash (λ w c next. IsAllowed w.basis w.history c) }
     ensures anew { AfterCrash (λ w c next. next ≡ opened_world next.basis) }
-    ensures opened { AfterCrash (λ w c next. opened next.basis ≡ c) }
+    ensures opened { AfterCrash (λ w c next. opened_cut next.basis ≡ c) }
     ensures limits { AfterCrash (λ w c next. (place : ℕ) → 0 < place → place < 7 →
         number_at place next.basis ≡ number_at place w.basis) }
     ensures settled { AfterCrash (λ w c next. next.file ≡ settled c) }
