@@ -136,7 +136,8 @@ fn turn_to_room(full: &mut Vec<Vec<u64>>, page: &mut Vec<u64>, blank: &mut Vec<V
     requires spare { 0 < spare_in page.old blank.old }
     ensures order { AreInOrder full.new page.new blank.new }
     ensures room { vec_len page.new < min (vec_capacity page.new) 1024 }
-    ensures words { words_in full.new.items ++ page.new.items ≡ words_in full.old.items ++ page.old.items }
+    ensures words { words_in full.new.items ++ page.new.items
+        ≡ words_in full.old.items ++ page.old.items }
     ensures spare { spare_in page.new blank.new ≡ spare_in page.old blank.old }
 {
     if page.len() < page.capacity().min(PAGE_WORDS) {

@@ -97,6 +97,15 @@ abbrev pub is_open_number : Option OpenCommit → ℕ → Bool
 is_open_number None number = false
 is_open_number (Some commit) number = commit.number == number
 
+-- the state behind the beginning of a caller's commit, and behind its end, where they fit
+abbrev pub state_after_began : ReplayState → ℕ → ℕ → Option ReplayState
+state_after_began p caller number =
+    if is_none p.under_way && is_next p.last number
+    then Some (record p { last = Some number; under_way = Some (record { caller = caller; number = number }) }) else None
+
+abbrev pub state_after_ended : ReplayState → ℕ → ℕ → Option ReplayState
+state_after_ended p caller number = if is_open p.under_way caller number then Some (record p { under_way = None }) else None
+
 -- the state behind a deed of a caller, where it fits
 abbrev pub state_after_deed : Lists → ReplayState → ℕ → Option Deed → Option ReplayState
 state_after_deed lists p caller None = None
@@ -105,10 +114,8 @@ state_after_deed lists p caller (Some (Asked table at)) = Some p
 state_after_deed lists p caller (Some Counted) = Some p
 state_after_deed lists p caller (Some (NotGiven index space table)) = if names_nothing p space index && holds_records table then Some p else None
 state_after_deed lists p caller (Some (Full size limit table)) = if is_limit_of table limit then Some p else None
-state_after_deed lists p caller (Some (Began number)) =
-    if is_none p.under_way && is_next p.last number
-    then Some (record p { last = Some number; under_way = Some (record { caller = caller; number = number }) }) else None
-state_after_deed lists p caller (Some (Ended number acknowledged)) = if is_open p.under_way caller number then Some (record p { under_way = None }) else None
+state_after_deed lists p caller (Some (Began number)) = state_after_began p caller number
+state_after_deed lists p caller (Some (Ended number acknowledged)) = state_after_ended p caller number
 state_after_deed lists p caller (Some (Underway number)) = if is_open_number p.under_way number then Some p else None
 
 -- the state behind one word more, where it fits

@@ -23,8 +23,10 @@ pub fn replay(
     words: &[u64],
 ) -> Verdict
     requires { length words.now < 2 ^ 32 }
-    ensures legal { result ≡ Verdict.Legal ↔ LeadsTo start words.now (record { types = types.now; items = items.now; names = names.now }) }
-    ensures least { IfIllegal result (IsFirstWrong start words.now (record { types = types.now; items = items.now; names = names.now })) }
+    ensures legal { result ≡ Verdict.Legal ↔ LeadsTo start words.now
+        (record { types = types.now; items = items.now; names = names.now }) }
+    ensures least { IfIllegal result (IsFirstWrong start words.now
+        (record { types = types.now; items = items.now; names = names.now })) }
 {
     if !has_start(types, items, names, start) {
         return Verdict::Illegal { at: 0 };

@@ -1,5 +1,5 @@
 ghost use Rattle.std.specs.Prelude.{◌≡◌, ◌<◌, ◌↔◌, ◌&&◌, length, IfSome, IsTrue, Some, None, is_none, if◌then◌else◌};
-ghost use Rattle.core_model.specs.Steps.{HasStart, next_state, state_after_add, state_after_deed, count_with, holds_records, is_end, is_first, is_limit_of, is_next, is_open, is_open_number, names_nothing, place_fits, place_of_index, place_of_offset};
+ghost use Rattle.core_model.specs.Steps.{HasStart, next_state, state_after_add, state_after_began, state_after_deed, state_after_ended, count_with, holds_records, is_end, is_first, is_limit_of, is_next, is_open, is_open_number, names_nothing, place_fits, place_of_index, place_of_offset};
 
 use crate::commit::OpenCommit;
 use call_journal::{Deed, Limit, TableKind, caller_of, deed_of};
@@ -25,7 +25,8 @@ pub(crate) fn has_start(
     names: &[Text],
     start: (u32, u32, u32),
 ) -> bool
-    ensures { IsTrue result ↔ HasStart (record { types = types.now; items = items.now; names = names.now }) start }
+    ensures { IsTrue result ↔ HasStart
+        (record { types = types.now; items = items.now; names = names.now }) start }
 {
     start.0 <= types.len() && start.1 <= items.len() && start.2 as usize <= names.len()
 }
@@ -38,7 +39,8 @@ pub(crate) fn next_state(
     state: ReplayState,
     word: u64,
 ) -> Option<ReplayState>
-    ensures { result ≡ next_state (record { types = types.now; items = items.now; names = names.now }) state word }
+    ensures { result ≡ next_state
+        (record { types = types.now; items = items.now; names = names.now }) state word }
 {
     let caller = caller_of(word);
     match deed_of(word)? {
@@ -63,7 +65,8 @@ pub(crate) fn is_end(
     names: &[Text],
     state: ReplayState,
 ) -> bool
-    ensures { result ≡ is_end (record { types = types.now; items = items.now; names = names.now }) state }
+    ensures { result ≡ is_end
+        (record { types = types.now; items = items.now; names = names.now }) state }
 {
     state.types == types.len() && state.items == items.len() && state.names == names.len()
 }
@@ -77,7 +80,8 @@ fn state_after_add(
     table: TableKind,
     at: u32,
 ) -> Option<ReplayState>
-    ensures { result ≡ state_after_add (record { types = types.now; items = items.now; names = names.now }) state table at }
+    ensures { result ≡ state_after_add
+        (record { types = types.now; items = items.now; names = names.now }) state table at }
 {
     match table {
         TableKind::Types => Some(ReplayState {
@@ -98,7 +102,8 @@ fn state_after_add(
 
 // How many records are there behind an add that gave this index, where it fits.
 fn count_with(list: &RecordList, count: u32, index: u32) -> Option<u32>
-    ensures { result ≡ (let place = place_of_index index in if place_fits list.now count place then Some (count_with count place) else None) }
+    ensures { result ≡ (let place = place_of_index index in
+        if place_fits list.now count place then Some (count_with count place) else None) }
 {
     if index < FIRST_INDEX {
         return None;
@@ -122,7 +127,8 @@ fn is_first(list: &RecordList, place: u32) -> bool
 
 // How many names are there behind an add that gave this offset, where it fits.
 fn names_with(names: &[Text], count: usize, offset: u32) -> Option<usize>
-    ensures { result ≡ (let place = place_of_offset 1 names.now offset in if place_fits names.now count place then Some (count_with count place) else None) }
+    ensures { result ≡ (let place = place_of_offset 1 names.now offset in
+        if place_fits names.now count place then Some (count_with count place) else None) }
 {
     let place = place_of_offset(names, offset)?;
     if place > count || !is_first_name(names, place) {
@@ -193,7 +199,7 @@ fn is_limit_of(table: TableKind, limit: Limit) -> bool
 
 // A commit began.
 fn state_after_began(state: ReplayState, caller: u8, number: u32) -> Option<ReplayState>
-    ensures { result ≡ (if is_none state.under_way && is_next state.last number then Some (record state { last = Some number; under_way = Some (record { caller = caller; number = number }) }) else None) }
+    ensures { result ≡ state_after_began state caller number }
 {
     if state.under_way.is_some() || !is_next(state.last, number) {
         return None;
@@ -217,7 +223,7 @@ fn is_next(last: Option<u32>, number: u32) -> bool
 
 // A commit ended.
 fn state_after_ended(state: ReplayState, caller: u8, number: u32) -> Option<ReplayState>
-    ensures { result ≡ (if is_open state.under_way caller number then Some (record state { under_way = None }) else None) }
+    ensures { result ≡ state_after_ended state caller number }
 {
     match state.under_way {
         Some(commit) if commit.caller == caller && commit.number == number => Some(ReplayState {

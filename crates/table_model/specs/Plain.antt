@@ -1,6 +1,5 @@
 -- What a plain table needs of a call, and what it keeps.
-use Rattle.std.specs.Prelude.{◌≤◌, ◌-◌, ◌==◌, nat_lt, ℕ, List, [], Option, Some, None, IsSome, IsTrue, if◌then◌else◌}
-use Rattle.std.specs.List.{slice_get}
+use Rattle.std.specs.Prelude.{◌≤◌, ℕ, List, IsSome, IsTrue}
 use Rattle.srv_edge.specs.declared.failed.Limits.{Limits}
 use Rattle.record_table.specs.Table as records
 use Rattle.names_table.specs.Names as strings
@@ -39,14 +38,6 @@ names_within limits list = record { max_bytes = limits.name_bytes; version = 1; 
 
 abbrev pub tables_within : Limits → List (List ℕ) → List (List ℕ) → List (List ℕ) → Tables
 tables_within limits types items names = record { types = table_within limits types; items = table_within limits items; names = names_within limits names }
-
--- the record at an index of a list
-abbrev pub record_in : List (List ℕ) → ℕ → Option (List ℕ)
-record_in list index = if nat_lt index 4096 then None else slice_get list (index - 4096)
-
--- the name that begins at an offset: the empty one at 0
-abbrev pub name_in : List (List ℕ) → ℕ → Option (List ℕ)
-name_in names offset = if offset == 0 then Some [] else strings.name_from 1 names offset
 
 -- the lists keep the limits
 pub record AreKept (limits : Limits) (types items names : List (List ℕ)) : Type 0 where

@@ -19,9 +19,12 @@ pub fn add_record(
 ) -> Result<u32, Refusal>
     requires types { types ≤ 2 ^ 23 }
     requires items { items ≤ 2 ^ 23 }
-    ensures answer { (result ≡ answer_to_record space table.old types items bytes.now) ⊎ (result ≡ Err Refusal.OutOfMemory) }
-    ensures after { (result ≡ Err Refusal.OutOfMemory) ⊎ (table.new ≡ table_after space table.old types items bytes.now) }
-    ensures no_memory { result ≡ Err Refusal.OutOfMemory → IsTrue (record_grows space table.old types items bytes.now) }
+    ensures answer { (result ≡ answer_to_record space table.old types items bytes.now)
+        ⊎ (result ≡ Err Refusal.OutOfMemory) }
+    ensures after { (result ≡ Err Refusal.OutOfMemory)
+        ⊎ (table.new ≡ table_after space table.old types items bytes.now) }
+    ensures no_memory { result ≡ Err Refusal.OutOfMemory →
+        IsTrue (record_grows space table.old types items bytes.now) }
     ensures kept { result ≡ Err Refusal.OutOfMemory → table.new ≡ table.old }
 {
     if let Err(wrong) = check(space, bytes) {
@@ -50,9 +53,12 @@ pub fn add_record(
 /// Adds a name. A refused name leaves the table.
 pub fn add_name(names: &mut NamesTable, name: &[u8]) -> Result<u32, Refusal>
     requires { IsName name.now }
-    ensures answer { (result ≡ answer_to_name names.old name.now) ⊎ (result ≡ Err Refusal.OutOfMemory) }
-    ensures after { (result ≡ Err Refusal.OutOfMemory) ⊎ (names.new ≡ names_after names.old name.now) }
-    ensures no_memory { result ≡ Err Refusal.OutOfMemory → IsTrue (name_appends names.old name.now) }
+    ensures answer { (result ≡ answer_to_name names.old name.now)
+        ⊎ (result ≡ Err Refusal.OutOfMemory) }
+    ensures after { (result ≡ Err Refusal.OutOfMemory)
+        ⊎ (names.new ≡ names_after names.old name.now) }
+    ensures no_memory { result ≡ Err Refusal.OutOfMemory →
+        IsTrue (name_appends names.old name.now) }
     ensures kept { result ≡ Err Refusal.OutOfMemory → names.new ≡ names.old }
 {
     match names.add(name) {

@@ -1,11 +1,11 @@
 ghost use Rattle.std.specs.Prelude.{◌≡◌, ◌≢◌, ◌≤◌, ◌<◌, ◌^◌, ◌⊎◌, ◌++◌, ◌∷◌, [], Err, IsSome, IsTrue, OnErr, OnOk, length};
 ghost use Rattle.std.specs.Option.{option_copied};
-ghost use Rattle.srv_edge.specs.Records.{joined};
-ghost use Rattle.record_table.specs.Table.{after_add, answer_to_add, appends};
-ghost use Rattle.names_table.specs.Names.{IsName, after_add as names_after, appends as name_appends, bytes_of};
+ghost use Rattle.srv_edge.specs.declared.failed.Limits.{Limits};
+ghost use Rattle.record_table.specs.Table.{after_add, answer_to_add, appends, record_at};
+ghost use Rattle.names_table.specs.Names.{IsName, after_add as names_after, appends as name_appends, bytes_of, name_at};
 ghost use Rattle.table_model.specs.Tables.{WithinLimits, answer_to_name, answer_to_record, answer_of_add, record_grows, table_after};
 ghost use Rattle.table_model.specs.Calls.{answer, bytes_answer, index_answer, tables_after};
-ghost use Rattle.table_model.specs.Plain.{BringsName, MayWant, name_in, names_within, record_in, table_within, tables_within};
+ghost use Rattle.table_model.specs.Plain.{BringsName, MayWant, names_within, table_within, tables_within};
 
 use crate::add::number_of;
 use crate::call::{Call, Outcome};
@@ -56,7 +56,8 @@ impl PlainTable {
     pub fn answer(&mut self, call: &Call) -> Result<Outcome, Refusal>
         requires name { BringsName call.now }
         ensures answer { (result ≡ answer self.old call.now) ⊎ (result ≡ Err Refusal.OutOfMemory) }
-        ensures after { (result ≡ Err Refusal.OutOfMemory) ⊎ (self.new ≡ tables_after self.old call.now) }
+        ensures after { (result ≡ Err Refusal.OutOfMemory)
+            ⊎ (self.new ≡ tables_after self.old call.now) }
         ensures no_memory { result ≡ Err Refusal.OutOfMemory → MayWant self.old call.now }
         ensures kept { result ≡ Err Refusal.OutOfMemory → self.new ≡ self.old }
     {
@@ -106,9 +107,14 @@ fn add_record(
     requires types { types ≤ 2 ^ 23 }
     requires items { items ≤ 2 ^ 23 }
     requires kept { WithinLimits (table_within limits list.old) }
-    ensures answer { (result ≡ index_answer (answer_to_record space (table_within limits list.old) types items bytes.now)) ⊎ (result ≡ Err Refusal.OutOfMemory) }
-    ensures after { (result ≡ Err Refusal.OutOfMemory) ⊎ (table_within limits list.new ≡ table_after space (table_within limits list.old) types items bytes.now) }
-    ensures no_memory { result ≡ Err Refusal.OutOfMemory → IsTrue (record_grows space (table_within limits list.old) types items bytes.now) }
+    ensures answer { (result ≡ index_answer
+        (answer_to_record space (table_within limits list.old) types items bytes.now))
+        ⊎ (result ≡ Err Refusal.OutOfMemory) }
+    ensures after { (result ≡ Err Refusal.OutOfMemory)
+        ⊎ (table_within limits list.new
+        ≡ table_after space (table_within limits list.old) types items bytes.now) }
+    ensures no_memory { result ≡ Err Refusal.OutOfMemory →
+        IsTrue (record_grows space (table_within limits list.old) types items bytes.now) }
     ensures unchanged { result ≡ Err Refusal.OutOfMemory → list.new ≡ list.old }
     ensures kept { WithinLimits (table_within limits list.new) }
 {
@@ -131,9 +137,13 @@ fn add_record(
 fn add_leaf(list: &mut RecordList, limits: Limits, bytes: &[u8]) -> Result<u32, Refusal>
     requires kept { WithinLimits (table_within limits list.old) }
     requires longest { length bytes.now ≤ 65536 }
-    ensures answer { (result ≡ answer_of_add (answer_to_add (table_within limits list.old) bytes.now) limits.records) ⊎ (result ≡ Err Refusal.OutOfMemory) }
-    ensures after { (result ≡ Err Refusal.OutOfMemory) ⊎ (table_within limits list.new ≡ after_add (table_within limits list.old) bytes.now) }
-    ensures no_memory { result ≡ Err Refusal.OutOfMemory → IsTrue (appends (table_within limits list.old) bytes.now) }
+    ensures answer { (result ≡ answer_of_add
+        (answer_to_add (table_within limits list.old) bytes.now) limits.records)
+        ⊎ (result ≡ Err Refusal.OutOfMemory) }
+    ensures after { (result ≡ Err Refusal.OutOfMemory)
+        ⊎ (table_within limits list.new ≡ after_add (table_within limits list.old) bytes.now) }
+    ensures no_memory { result ≡ Err Refusal.OutOfMemory →
+        IsTrue (appends (table_within limits list.old) bytes.now) }
     ensures unchanged { result ≡ Err Refusal.OutOfMemory → list.new ≡ list.old }
     ensures kept { WithinLimits (table_within limits list.new) }
 {
@@ -166,9 +176,14 @@ fn add_name(
 ) -> Result<Outcome, Refusal>
     requires name { IsName name.now }
     requires kept { bytes_of names.old.items ≤ limits.name_bytes }
-    ensures answer { (result ≡ index_answer (answer_to_name (names_within limits names.old.items) name.now)) ⊎ (result ≡ Err Refusal.OutOfMemory) }
-    ensures after { (result ≡ Err Refusal.OutOfMemory) ⊎ (names_within limits names.new.items ≡ names_after (names_within limits names.old.items) name.now) }
-    ensures no_memory { result ≡ Err Refusal.OutOfMemory → IsTrue (name_appends (names_within limits names.old.items) name.now) }
+    ensures answer { (result ≡ index_answer
+        (answer_to_name (names_within limits names.old.items) name.now))
+        ⊎ (result ≡ Err Refusal.OutOfMemory) }
+    ensures after { (result ≡ Err Refusal.OutOfMemory)
+        ⊎ (names_within limits names.new.items
+        ≡ names_after (names_within limits names.old.items) name.now) }
+    ensures no_memory { result ≡ Err Refusal.OutOfMemory →
+        IsTrue (name_appends (names_within limits names.old.items) name.now) }
     ensures unchanged { result ≡ Err Refusal.OutOfMemory → names.new.items ≡ names.old.items }
     ensures kept { bytes_of names.new.items ≤ limits.name_bytes }
 {
@@ -198,10 +213,14 @@ fn push_name(alloc: Global, names: &mut Vec<Text>, name: &[u8]) -> Result<(), Al
     Ok(())
 }
 
-// The record at an index.
+// The record at an index, whatever the limits.
 fn get_record(alloc: Global, list: &RecordList, space: u8, index: u32) -> Result<Outcome, Refusal>
-    ensures answer { (result ≡ bytes_answer (record_in list.now index) (Refusal.NotGiven space index)) ⊎ (result ≡ Err Refusal.OutOfMemory) }
-    ensures no_memory { result ≡ Err Refusal.OutOfMemory → IsSome (record_in list.now index) }
+    ensures answer { (limits : Limits) →
+        (result ≡ bytes_answer
+        (record_at (table_within limits list.now) index) (Refusal.NotGiven space index))
+        ⊎ (result ≡ Err Refusal.OutOfMemory) }
+    ensures no_memory { (limits : Limits) →
+        result ≡ Err Refusal.OutOfMemory → IsSome (record_at (table_within limits list.now) index) }
 {
     let missing = Refusal::NotGiven { space, index };
     if index < FIRST_INDEX {
@@ -210,11 +229,15 @@ fn get_record(alloc: Global, list: &RecordList, space: u8, index: u32) -> Result
     copied(alloc, list.get(index - FIRST_INDEX), missing)
 }
 
-// The name that begins at an offset: the empty one at 0.
+// The name that begins at an offset, whatever the limits: the empty one at 0.
 fn get_name(alloc: Global, names: &[Text], offset: u32) -> Result<Outcome, Refusal>
     requires { bytes_of names.now < 2 ^ 32 }
-    ensures answer { (result ≡ bytes_answer (name_in names.now offset) (Refusal.NotGiven 2 offset)) ⊎ (result ≡ Err Refusal.OutOfMemory) }
-    ensures no_memory { result ≡ Err Refusal.OutOfMemory → IsSome (name_in names.now offset) }
+    ensures answer { (limits : Limits) →
+        (result ≡ bytes_answer
+        (name_at (names_within limits names.now) offset) (Refusal.NotGiven 2 offset))
+        ⊎ (result ≡ Err Refusal.OutOfMemory) }
+    ensures no_memory { (limits : Limits) →
+        result ≡ Err Refusal.OutOfMemory → IsSome (name_at (names_within limits names.now) offset) }
 {
     let missing = Refusal::NotGiven {
         space: 2,
@@ -231,7 +254,8 @@ fn get_name(alloc: Global, names: &[Text], offset: u32) -> Result<Outcome, Refus
 // A copy of what was found, or the refusal where nothing was.
 fn copied(alloc: Global, found: Option<&[u8]>, missing: Refusal) -> Result<Outcome, Refusal>
     requires { missing ≢ Refusal.OutOfMemory }
-    ensures answer { (result ≡ bytes_answer (option_copied found.entry) missing) ⊎ (result ≡ Err Refusal.OutOfMemory) }
+    ensures answer { (result ≡ bytes_answer (option_copied found.entry) missing)
+        ⊎ (result ≡ Err Refusal.OutOfMemory) }
     ensures no_memory { result ≡ Err Refusal.OutOfMemory → IsSome (option_copied found.entry) }
 {
     match found {
