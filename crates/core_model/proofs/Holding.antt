@@ -12,7 +12,7 @@ use Rattle.call_journal.specs.Words.{deed_of}
 use Rattle.core_model.specs.History.{Fits, IsLegal, Standing, after_entry, standing}
 use Rattle.core_model.specs.Cuts.{BeganAt, IsAllowed}
 use Rattle.table_model.specs.Cut.{Cut}
-use Rattle.core_model.specs.Files.{Commit, DeviceCall, File, MayLeave, Phase, Progress, Which, done, doubt, failed, cut_left, older, pending, progress, resolution, resolving, resolving_sync, settled, sure, switching, switching_sync, sync, write, write_super, writing}
+use Rattle.core_model.specs.Files.{Commit, DeviceCall, File, MayLeave, Phase, Progress, Which, done, doubt, failed, cut_left, older, pending, progress, resolution, resolving, resolving_sync, settled, sure_cut, switching, switching_sync, sync, write, write_super, writing}
 use Rattle.core_model.specs.Passes.{Knowledge, with_view}
 use Rattle.core_model.proofs.Allowed.{allowed_more, began_more}
 use Rattle.core_model.proofs.Growing.{legal_more, standing_more}
@@ -57,8 +57,8 @@ kept_filed b h views c e own fits k = record {
 
 -- while blocks are written, and until the superblock is, the file is settled
 abbrev pub StandsIn : Phase → File → Type 0
-StandsIn writing f = f ≡ settled (sure f)
-StandsIn switching f = f ≡ settled (sure f)
+StandsIn writing f = f ≡ settled (sure_cut f)
+StandsIn switching f = f ≡ settled (sure_cut f)
 StandsIn resolving f = ⊤
 StandsIn resolving_sync f = ⊤
 StandsIn switching_sync f = ⊤
@@ -116,20 +116,20 @@ resolved_file new f p e =
       go (doubt x q) older c is = inr (pending, is)
       go (doubt x q) pending c is = absurd (cc)
 
-      plain : (g : File) → resolution g ≡ settled (sure (resolution g))
+      plain : (g : File) → resolution g ≡ settled (sure_cut (resolution g))
       plain (settled x) = refl
       plain (doubt x q) = refl
 
 -- a file that was settled may now hold the new cut too
-doubted_file : (new : Cut) (f : File) (ok : Bool) (phase : Phase) (p : Progress) → f ≡ settled (sure f) → StandsIn phase (doubt (sure f) new) → (phase ≡ done → ⊥) → Some (record { file = doubt (sure f) new; phase = phase }) ≡ Some p → IsProgress new f write_super ok p
+doubted_file : (new : Cut) (f : File) (ok : Bool) (phase : Phase) (p : Progress) → f ≡ settled (sure_cut f) → StandsIn phase (doubt (sure_cut f) new) → (phase ≡ done → ⊥) → Some (record { file = doubt (sure_cut f) new; phase = phase }) ≡ Some p → IsProgress new f write_super ok p
 doubted_file new f ok phase p plain stands not_done e =
-    subst (IsProgress new f write_super ok) (same_Some (record { file = doubt (sure f) new; phase = phase }) p e) (record { holds = go f; stands = stands; finished = λ d. absurd (not_done d); stays = λ other c may. kept c (subst (λ g. MayLeave g c) plain may) }) where
-      go : (g : File) (which : Which) (c : Cut) → cut_left (doubt (sure g) new) which ≡ Some c → (c ≡ new) ⊎ MayLeave g c
+    subst (IsProgress new f write_super ok) (same_Some (record { file = doubt (sure_cut f) new; phase = phase }) p e) (record { holds = go f; stands = stands; finished = λ d. absurd (not_done d); stays = λ other c may. kept c (subst (λ g. MayLeave g c) plain may) }) where
+      go : (g : File) (which : Which) (c : Cut) → cut_left (doubt (sure_cut g) new) which ≡ Some c → (c ≡ new) ⊎ MayLeave g c
       go g pending c is = inl (sym (same_Some new c is))
       go (settled x) older c is = inr (older, is)
       go (doubt x q) older c is = inr (older, is)
 
-      kept : (c : Cut) → MayLeave (settled (sure f)) c → MayLeave (doubt (sure f) new) c
+      kept : (c : Cut) → MayLeave (settled (sure_cut f)) c → MayLeave (doubt (sure_cut f) new) c
       kept c (older, is) = (older, is)
       kept c (pending, is) = absurd (cc)
 

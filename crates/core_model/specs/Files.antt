@@ -25,9 +25,9 @@ abbrev pub MayLeave : File → Cut → Type 0
 MayLeave file c = (which : Which) × (cut_left file which ≡ Some c)
 
 -- the cut that the file is settled on, or was before it came in doubt
-abbrev pub sure : File → Cut
-sure (settled x) = x
-sure (doubt x p) = x
+abbrev pub sure_cut : File → Cut
+sure_cut (settled x) = x
+sure_cut (doubt x p) = x
 
 -- the file settled on the pending cut
 abbrev pub resolution : File → File
@@ -75,8 +75,8 @@ progress new file writing write true = at_phase file writing
 progress new file writing write false = at_phase file failed
 progress new file writing sync true = at_phase file switching
 progress new file writing sync false = at_phase file failed
-progress new file switching write_super true = at_phase (doubt (sure file) new) switching_sync
-progress new file switching write_super false = at_phase (doubt (sure file) new) failed
+progress new file switching write_super true = at_phase (doubt (sure_cut file) new) switching_sync
+progress new file switching write_super false = at_phase (doubt (sure_cut file) new) failed
 progress new file switching_sync sync true = at_phase (settled new) done
 progress new file switching_sync sync false = at_phase file failed
 progress new file _ _ _ = None

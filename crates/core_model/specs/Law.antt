@@ -69,9 +69,9 @@ has_call switching_sync sync = true
 has_call _ _ = false
 
 -- the calls that settle a file in doubt
-abbrev pub settling : File → List Event
-settling (settled x) = []
-settling (doubt x p) = calls_device write_super true ∷ calls_device sync true ∷ []
+abbrev pub settling_calls : File → List Event
+settling_calls (settled x) = []
+settling_calls (doubt x p) = calls_device write_super true ∷ calls_device sync true ∷ []
 
 -- so many blocks written
 abbrev pub writes : ℕ → List Event
@@ -81,7 +81,7 @@ writes (suc blocks) = calls_device write true ∷ writes blocks
 -- a pass's commit onto a file, of so many blocks, that meets no failure, with nothing between its events
 abbrev pub smooth_commit : File → ℕ → ℕ → List Event
 smooth_commit file blocks c =
-    begins c ∷ (settling file ++ (writes blocks ++ calls_device sync true ∷ calls_device write_super true ∷ calls_device sync true ∷ ends c ∷ []))
+    begins c ∷ (settling_calls file ++ (writes blocks ++ calls_device sync true ∷ calls_device write_super true ∷ calls_device sync true ∷ ends c ∷ []))
 
 -- it always holds of what a crash left, and of the world once the file is opened again
 abbrev pub AfterCrash : (World → Cut → World → Type 0) → Type 0

@@ -18,7 +18,7 @@ ghost use Rattle.core_model.specs.Cuts.{AcknowledgesNoOther, BeganAt, Extends, I
 ghost use Rattle.core_model.specs.Effects.{happens};
 ghost use Rattle.core_model.specs.Entries.{entry_of, entry_of_call};
 ghost use Rattle.core_model.specs.Events.{Event, asks_commit, begins, calls, calls_device, crashes, dies, ends, whose};
-ghost use Rattle.core_model.specs.Files.{Commit, DeviceCall, MayLeave, Which, done, doubt, failed, first_phase, resolving_sync, settled, sure, switching, sync, write_super, writing};
+ghost use Rattle.core_model.specs.Files.{Commit, DeviceCall, MayLeave, Which, done, doubt, failed, first_phase, resolving_sync, settled, sure_cut, switching, sync, write_super, writing};
 ghost use Rattle.core_model.specs.History.{IsLegal, IsStart, OpenCommit, after, number_at, standing};
 ghost use Rattle.core_model.specs.Law.{AfterCrash, Always, EachAcknowledged, EachAdd, EachBeginning, EachCall, EachCommit, EachEvent, EachUnderWay, IsAcknowledged, IsKeptAs, add_to, entries_of, has_call, smooth_commit};
 ghost use Rattle.core_model.specs.Legal.{AreCalls, EachLegal, EachOpen, EachUnended, faulted_ends, stands_at};
@@ -92,7 +92,7 @@ pub fn commits()
     ensures stays { Always (λ w. (event : Event) (c : Cut) → w.crash ≡ None →
         event ≢ calls_device sync true → MayLeave w.file c → MayLeave (step w event).file c) }
     ensures certain { EachCommit (λ w k. k.phase ≡ done → w.file ≡ settled k.cut) }
-    ensures steady { EachCommit (λ w k. k.phase ≡ writing → w.file ≡ settled (sure w.file)) }
+    ensures steady { EachCommit (λ w k. k.phase ≡ writing → w.file ≡ settled (sure_cut w.file)) }
     ensures resolves { EachUnderWay (λ w k. (x p : Cut) →
         k.phase ≡ resolving_sync → w.file ≡ doubt x p →
         (step w (calls_device sync true)).file ≡ settled p) }
