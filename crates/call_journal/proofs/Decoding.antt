@@ -7,7 +7,7 @@ use Rattle.call_journal.specs.declared.deed.Limit.{Limit}
 use Rattle.call_journal.specs.declared.deed.Limit.TheVariants as limit
 use Rattle.call_journal.specs.declared.deed.Deed.{Deed}
 use Rattle.call_journal.specs.declared.deed.Deed.TheVariants.{Added, Asked, Counted, NotGiven, Full, Began, Ended, Underway}
-use Rattle.call_journal.specs.Words.{IsDeed, deed_by, deed_of, end_of, full, kind_of, limit_number, limit_of, low_of, middle_of, not_given, number_of, plain_deed, table_of, with_table, word_of}
+use Rattle.call_journal.specs.Words.{IsDeed, deed_by, deed_of, end_of, full_deed, kind_of, limit_number, limit_of, low_of, middle_of, not_given_deed, number_of, plain_deed, table_of, with_table, word_of}
 
 -- a word by its four parts
 abbrev word_by : ℕ → ℕ → ℕ → ℕ → ℕ
@@ -122,14 +122,14 @@ limit_back n l e = grind arith
 abbrev AreOf : ℕ → ℕ → ℕ → Deed → Type 0
 AreOf kind middle low deed = (kind ≡ kind_of deed) × (middle ≡ middle_of deed) × (low ≡ low_of deed)
 
-not_given_back : (middle low : ℕ) (space table : Option TableKind) (deed : Deed) → table_of (middle % 4) ≡ space → table_of (middle / 4) ≡ table → not_given low space table ≡ Some deed → AreOf 8 middle low deed
+not_given_back : (middle low : ℕ) (space table : Option TableKind) (deed : Deed) → table_of (middle % 4) ≡ space → table_of (middle / 4) ≡ table → not_given_deed low space table ≡ Some deed → AreOf 8 middle low deed
 not_given_back middle low None table deed s t e = absurd (grind arith)
 not_given_back middle low (Some space) None deed s t e = absurd (grind arith)
 not_given_back middle low (Some space) (Some table) deed s t e =
     let d : NotGiven low space table ≡ deed = grind arith in
     subst (AreOf 8 middle low) d (refl, omega (arith, number_back (middle % 4) space s, number_back (middle / 4) table t), refl)
 
-full_back : (middle low : ℕ) (l : Option Limit) (table : Option TableKind) (deed : Deed) → limit_of (middle % 4) ≡ l → table_of (middle / 4) ≡ table → full low l table ≡ Some deed → AreOf 9 middle low deed
+full_back : (middle low : ℕ) (l : Option Limit) (table : Option TableKind) (deed : Deed) → limit_of (middle % 4) ≡ l → table_of (middle / 4) ≡ table → full_deed low l table ≡ Some deed → AreOf 9 middle low deed
 full_back middle low None table deed s t e = absurd (grind arith)
 full_back middle low (Some l) None deed s t e = absurd (grind arith)
 full_back middle low (Some l) (Some table) deed s t e =

@@ -226,7 +226,7 @@ fn get_record(alloc: Global, list: &RecordList, space: u8, index: u32) -> Result
     if index < FIRST_INDEX {
         return Err(missing);
     }
-    copied(alloc, list.get(index - FIRST_INDEX), missing)
+    copy_of(alloc, list.get(index - FIRST_INDEX), missing)
 }
 
 // The name that begins at an offset, whatever the limits: the empty one at 0.
@@ -248,11 +248,11 @@ fn get_name(alloc: Global, names: &[Text], offset: u32) -> Result<Outcome, Refus
     } else {
         name_at(names, offset)
     };
-    copied(alloc, name, missing)
+    copy_of(alloc, name, missing)
 }
 
 // A copy of what was found, or the refusal where nothing was.
-fn copied(alloc: Global, found: Option<&[u8]>, missing: Refusal) -> Result<Outcome, Refusal>
+fn copy_of(alloc: Global, found: Option<&[u8]>, missing: Refusal) -> Result<Outcome, Refusal>
     requires { missing ≢ Refusal.OutOfMemory }
     ensures answer { (result ≡ bytes_answer (option_copied found.entry) missing)
         ⊎ (result ≡ Err Refusal.OutOfMemory) }
