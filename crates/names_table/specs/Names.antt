@@ -38,9 +38,13 @@ abbrev pub offset_of : Names → List ℕ → Option ℕ
 offset_of table [] = Some 0
 offset_of table (b ∷ name) = offset_from 1 table.names (b ∷ name)
 
--- the name that begins at an offset
+-- the name of a list that begins at an offset: the empty one at 0
+abbrev pub name_in : List (List ℕ) → ℕ → Option (List ℕ)
+name_in names offset = if offset == 0 then Some [] else name_from 1 names offset
+
+-- the name of a table that begins at an offset
 abbrev pub name_at : Names → ℕ → Option (List ℕ)
-name_at table offset = if offset == 0 then Some [] else name_from 1 table.names offset
+name_at table offset = name_in table.names offset
 
 -- the bytes that the names would take with one more
 abbrev pub needed_for : Names → List ℕ → ℕ

@@ -62,9 +62,13 @@ appends table r = is_none (index_of table r) && is_ok (answer_to_new table r)
 abbrev pub after_add : Table → List ℕ → Table
 after_add table r = if appends table r then appended table r else table
 
--- the record at an index
+-- the record at an index of a list
+abbrev pub record_in : List (List ℕ) → ℕ → Option (List ℕ)
+record_in records index = if nat_lt index FIRST_INDEX then None else slice_get records (index - FIRST_INDEX)
+
+-- the record at an index of a table
 abbrev pub record_at : Table → ℕ → Option (List ℕ)
-record_at table index = if nat_lt index FIRST_INDEX then None else slice_get table.records (index - FIRST_INDEX)
+record_at table index = record_in table.records index
 
 -- An add answers so and leaves that table; or it wants memory, where it would append.
 abbrev pub Adds : Table → List ℕ → Result ℕ AddFault → Table → Type 0

@@ -1,11 +1,9 @@
 -- What a plain table needs of a call, and what it keeps.
-use Rattle.std.specs.Prelude.{◌≡◌, ◌≤◌, ◌-◌, ◌==◌, ◌⊎◌, nat_lt, ℕ, List, [], Option, Some, None, Result, Err, IsSome, IsTrue, if◌then◌else◌}
-use Rattle.std.specs.List.{slice_get}
+use Rattle.std.specs.Prelude.{◌≡◌, ◌≤◌, ◌⊎◌, ℕ, List, Option, Result, Err, IsSome, IsTrue}
 use Rattle.srv_edge.specs.declared.failed.Limits.{Limits}
 use Rattle.srv_edge.specs.declared.failed.Refusal.{Refusal}
 use Rattle.srv_edge.specs.declared.failed.Refusal.TheVariants.{OutOfMemory}
 use Rattle.srv_edge.specs.Growth.{AnswersOrWants}
-use Rattle.record_table.specs.declared.first.TheConstants.{FIRST_INDEX}
 use Rattle.record_table.specs.Table as records
 use Rattle.names_table.specs.Names as strings
 use Rattle.table_model.specs.declared.call.Call.{Call}
@@ -35,14 +33,6 @@ MayWant x (GetType index) = IsSome (records.record_at x.types index)
 MayWant x (GetItem index) = IsSome (records.record_at x.items index)
 MayWant x (GetName offset) = IsSome (strings.name_at x.names offset)
 MayWant x Counts = ⊥
-
--- the record at an index of a list
-abbrev pub record_in : List (List ℕ) → ℕ → Option (List ℕ)
-record_in list index = if nat_lt index FIRST_INDEX then None else slice_get list (index - FIRST_INDEX)
-
--- the name that begins at an offset: the empty one at 0
-abbrev pub name_in : List (List ℕ) → ℕ → Option (List ℕ)
-name_in names offset = if offset == 0 then Some [] else strings.name_from 1 names offset
 
 -- the lists keep the limits
 pub record AreKept (limits : Limits) (types items names : List (List ℕ)) : Type 0 where

@@ -2,9 +2,10 @@ ghost use Rattle.std.specs.Prelude.{◌≡◌, ◌≢◌, ◌≤◌, ◌<◌, �
 ghost use Rattle.std.specs.Option.{option_copied};
 ghost use Rattle.srv_edge.specs.declared.limit.TheConstants.{MOST_RECORDS, RECORD_BYTES};
 ghost use Rattle.srv_edge.specs.declared.space.TheConstants as spaces;
-ghost use Rattle.names_table.specs.Names.{IsName, bytes_of};
+ghost use Rattle.record_table.specs.Table.{record_in};
+ghost use Rattle.names_table.specs.Names.{IsName, bytes_of, name_in};
 ghost use Rattle.table_model.specs.Tables.{WithinLimits, empty_tables, table_within};
-ghost use Rattle.table_model.specs.Plain.{AddsLeaf, AddsToList, AddsToNames, AnswersCall, BringsName, Copies, name_in, record_in};
+ghost use Rattle.table_model.specs.Plain.{AddsLeaf, AddsToList, AddsToNames, AnswersCall, BringsName, Copies};
 
 use crate::add::number_of;
 use crate::call::{Call, Outcome};
@@ -191,7 +192,7 @@ fn push_name(alloc: Global, names: &mut Vec<Text>, name: &[u8]) -> Result<(), Al
     Ok(())
 }
 
-// The record at an index.
+// The record at an index, whatever the limits.
 fn get_record(alloc: Global, list: &RecordList, space: u8, index: u32) -> Result<Outcome, Refusal>
     ensures { Copies (record_in list.now index) (Refusal.NotGiven space index) result }
 {
@@ -199,10 +200,10 @@ fn get_record(alloc: Global, list: &RecordList, space: u8, index: u32) -> Result
     if index < FIRST_INDEX {
         return Err(missing);
     }
-    copied(alloc, list.get(index - FIRST_INDEX), missing)
+    copy_of(alloc, list.get(index - FIRST_INDEX), missing)
 }
 
-// The name that begins at an offset: the empty one at 0.
+// The name that begins at an offset, whatever the limits: the empty one at 0.
 fn get_name(alloc: Global, names: &[Text], offset: u32) -> Result<Outcome, Refusal>
     requires { bytes_of names.now < 2 ^ 32 }
     ensures { Copies (name_in names.now offset) (Refusal.NotGiven spaces.NAMES offset) result }
@@ -216,11 +217,11 @@ fn get_name(alloc: Global, names: &[Text], offset: u32) -> Result<Outcome, Refus
     } else {
         name_at(names, offset)
     };
-    copied(alloc, name, missing)
+    copy_of(alloc, name, missing)
 }
 
 // A copy of what was found, or the refusal where nothing was.
-fn copied(alloc: Global, found: Option<&[u8]>, missing: Refusal) -> Result<Outcome, Refusal>
+fn copy_of(alloc: Global, found: Option<&[u8]>, missing: Refusal) -> Result<Outcome, Refusal>
     requires { missing ≢ Refusal.OutOfMemory }
     ensures { Copies (option_copied found.entry) missing result }
 {

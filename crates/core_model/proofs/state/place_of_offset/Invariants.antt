@@ -1,7 +1,7 @@
 use Rattle.std.proofs.Common.{◌≡◌, ◌+◌, drop}
 use Rattle.std.specs.Option.{option_map}
 use Rattle.core_model.specs.Steps.{place_of_offset}
-use Rattle.core_model.proofs.passed.place_of_offset.Given as goal
+use Rattle.core_model.proofs.state.place_of_offset.Given as goal
 
 abbrev pub invariant-loop-place : goal.invariant-loop-place
 invariant-loop-place l = record {

@@ -1,7 +1,7 @@
 use Rattle.std.proofs.Common.{◌+◌, drop, ap, sym, ◌∙◌, arith}
 use Rattle.std.specs.Option.{option_map}
 use Rattle.core_model.proofs.Places.{past}
-use Rattle.core_model.proofs.passed.place_of_offset.Goals as goal
+use Rattle.core_model.proofs.state.place_of_offset.Goals as goal
 
 pub returns-then-start-wanted-clause-place : goal.returns-then-start-wanted-clause-place
 returns-then-start-wanted-clause-place c =

@@ -1,37 +1,37 @@
 -- How far words come, one word more, and what that says of them.
 use Rattle.std.proofs.Common.{◌≡◌, ◌≤◌, ◌<◌, ◌+◌, ℕ, zero, suc, true, false, inl, inr, List, [], ◌∷◌, ◌++◌, length, length-append, get_or, take, drop, Option, Some, None, option_and_then, refl, sym, ap, subst, ◌∙◌, arith}
 use Rattle.std.proofs.lemmas.List.{take_all}
-use Rattle.core_model.specs.declared.passed.Passed.{Passed}
+use Rattle.core_model.specs.declared.state.ReplayState.{ReplayState}
 use Rattle.core_model.specs.Cuts.{Extends, StartsWith}
 use Rattle.core_model.specs.History.{after}
 use Rattle.core_model.specs.Replay.{IsFirstWrong, AreBeginnings, IsWrongAt, LeadsInto, LeadsTo, Lists, lists_of}
-use Rattle.core_model.specs.Steps.{HasStart, behind, behind_all, is_end, started}
+use Rattle.core_model.specs.Steps.{HasStart, next_state, state_after, is_end, first_state}
 use Rattle.core_model.proofs.Extending.{extends_history}
 use Rattle.core_model.proofs.Leading.{into_passes, reached_on, self_reached, to_passes}
 use Rattle.core_model.proofs.Tracing.{passes_into}
 
 -- behind a word that fits, or where none does
-both : (lists : Lists) (a b : List ℕ) → ((q : Passed) → behind_all lists q (a ++ b) ≡ option_and_then (λ r. behind_all lists r b) (behind_all lists q a)) → (o : Option Passed)
-    → option_and_then (λ q. behind_all lists q (a ++ b)) o ≡ option_and_then (λ q. behind_all lists q b) (option_and_then (λ q. behind_all lists q a) o)
+both : (lists : Lists) (a b : List ℕ) → ((q : ReplayState) → state_after lists q (a ++ b) ≡ option_and_then (λ r. state_after lists r b) (state_after lists q a)) → (o : Option ReplayState)
+    → option_and_then (λ q. state_after lists q (a ++ b)) o ≡ option_and_then (λ q. state_after lists q b) (option_and_then (λ q. state_after lists q a) o)
 both lists a b each None = refl
 both lists a b each (Some q) = each q
 
 -- words and those behind them
-pub behind_all-append : (lists : Lists) (p : Passed) (a b : List ℕ) → behind_all lists p (a ++ b) ≡ option_and_then (λ q. behind_all lists q b) (behind_all lists p a)
-behind_all-append lists p [] b = refl
-behind_all-append lists p (w ∷ a) b = both lists a b (λ q. behind_all-append lists q a b) (behind lists p w)
+pub state_after-append : (lists : Lists) (p : ReplayState) (a b : List ℕ) → state_after lists p (a ++ b) ≡ option_and_then (λ q. state_after lists q b) (state_after lists p a)
+state_after-append lists p [] b = refl
+state_after-append lists p (w ∷ a) b = both lists a b (λ q. state_after-append lists q a b) (next_state lists p w)
 
 -- words of which one does not fit
-pub stuck : (lists : Lists) (p q : Passed) (before : List ℕ) (w : ℕ) (rest : List ℕ) → behind_all lists p before ≡ Some q → behind lists q w ≡ None → behind_all lists p (before ++ w ∷ rest) ≡ None
+pub stuck : (lists : Lists) (p q : ReplayState) (before : List ℕ) (w : ℕ) (rest : List ℕ) → state_after lists p before ≡ Some q → next_state lists q w ≡ None → state_after lists p (before ++ w ∷ rest) ≡ None
 stuck lists p q before w rest fits wrong =
-    behind_all-append lists p before (w ∷ rest) ∙ ap (option_and_then (λ r. behind_all lists r (w ∷ rest))) fits
-    ∙ ap (option_and_then (λ r. behind_all lists r rest)) wrong
+    state_after-append lists p before (w ∷ rest) ∙ ap (option_and_then (λ r. state_after lists r (w ∷ rest))) fits
+    ∙ ap (option_and_then (λ r. state_after lists r rest)) wrong
 
 -- a word more that fits
-pub further : (lists : Lists) (p q r : Passed) (before : List ℕ) (w : ℕ) → behind_all lists p before ≡ Some q → behind lists q w ≡ Some r → behind_all lists p (before ++ w ∷ []) ≡ Some r
+pub further : (lists : Lists) (p q r : ReplayState) (before : List ℕ) (w : ℕ) → state_after lists p before ≡ Some q → next_state lists q w ≡ Some r → state_after lists p (before ++ w ∷ []) ≡ Some r
 further lists p q r before w fits next =
-    behind_all-append lists p before (w ∷ []) ∙ ap (option_and_then (λ s. behind_all lists s (w ∷ []))) fits
-    ∙ ap (option_and_then (λ s. behind_all lists s [])) next
+    state_after-append lists p before (w ∷ []) ∙ ap (option_and_then (λ s. state_after lists s (w ∷ []))) fits
+    ∙ ap (option_and_then (λ s. state_after lists s [])) next
 
 -- words, parted round the word at a place
 pub parted : (words : List ℕ) (i : ℕ) → i < length words → words ≡ take i words ++ get_or words i 0 ∷ drop (i + 1) words
@@ -50,13 +50,13 @@ take-next (w ∷ words) (suc i) within =
     rw next (ap (λ ws. w ∷ ws) (take-next words i (omega arith)))
 
 -- words that pass, to an earlier place
-passes_before : (lists : Lists) (p q : Passed) (words : List ℕ) (i j : ℕ) → j ≤ i → behind_all lists p (take i words) ≡ Some q → (r : Passed) × (behind_all lists p (take j words) ≡ Some r)
+passes_before : (lists : Lists) (p q : ReplayState) (words : List ℕ) (i j : ℕ) → j ≤ i → state_after lists p (take i words) ≡ Some q → (r : ReplayState) × (state_after lists p (take j words) ≡ Some r)
 passes_before lists p q words i zero le e = (p, refl)
 passes_before lists p q [] i (suc j) le e = (p, refl)
 passes_before lists p q (w ∷ words) zero (suc j) le e = absurd (omega arith)
-passes_before lists p q (w ∷ words) (suc i) (suc j) le e = go (behind lists p w) (λ r f. passes_before lists r q words i j (omega arith) f) e where
-  go : (o : Option Passed) → ((r : Passed) → behind_all lists r (take i words) ≡ Some q → (s : Passed) × (behind_all lists r (take j words) ≡ Some s)) → option_and_then (λ r. behind_all lists r (take i words)) o ≡ Some q
-      → (s : Passed) × (option_and_then (λ r. behind_all lists r (take j words)) o ≡ Some s)
+passes_before lists p q (w ∷ words) (suc i) (suc j) le e = go (next_state lists p w) (λ r f. passes_before lists r q words i j (omega arith) f) e where
+  go : (o : Option ReplayState) → ((r : ReplayState) → state_after lists r (take i words) ≡ Some q → (s : ReplayState) × (state_after lists r (take j words) ≡ Some s)) → option_and_then (λ r. state_after lists r (take i words)) o ≡ Some q
+      → (s : ReplayState) × (option_and_then (λ r. state_after lists r (take j words)) o ≡ Some s)
   go None h e = absurd cc
   go (Some r) h e = h r e
 
@@ -89,40 +89,40 @@ pub leads_not_without : (start : ℕ × ℕ × ℕ) (words : List ℕ) (lists : 
 leads_not_without start words lists lacks k = lacks (start_there start words lists (to_into start words lists k))
 
 -- before a place to which the words pass none is wrong
-none_earlier : (start : ℕ × ℕ × ℕ) (words : List ℕ) (lists : Lists) (q : Passed) (i : ℕ) → HasStart lists start → i ≤ length words → behind_all lists (started start) (take i words) ≡ Some q
+none_earlier : (start : ℕ × ℕ × ℕ) (words : List ℕ) (lists : Lists) (q : ReplayState) (i : ℕ) → HasStart lists start → i ≤ length words → state_after lists (first_state start) (take i words) ≡ Some q
     → (earlier : ℕ) → earlier < i → ¬ IsWrongAt start words lists earlier
 none_earlier start words lists q i has within e earlier less (inl wrong) =
-    let r = passes_before lists (started start) q words i (earlier + 1) (omega arith) e in wrong.1 (passes_into start (take (earlier + 1) words) lists r.0 has r.1)
+    let r = passes_before lists (first_state start) q words i (earlier + 1) (omega arith) e in wrong.1 (passes_into start (take (earlier + 1) words) lists r.0 has r.1)
 none_earlier start words lists q i has within e earlier less (inr wrong) = omega (arith, wrong.0)
 
 -- where a word does not fit
-not_further : (lists : Lists) (p q : Passed) (words : List ℕ) (i : ℕ) → i < length words → behind_all lists p (take i words) ≡ Some q → behind lists q (get_or words i 0) ≡ None → behind_all lists p (take (i + 1) words) ≡ None
-not_further lists p q words i within fits wrong = ap (behind_all lists p) (take-next words i within) ∙ stuck lists p q (take i words) (get_or words i 0) [] fits wrong
+not_further : (lists : Lists) (p q : ReplayState) (words : List ℕ) (i : ℕ) → i < length words → state_after lists p (take i words) ≡ Some q → next_state lists q (get_or words i 0) ≡ None → state_after lists p (take (i + 1) words) ≡ None
+not_further lists p q words i within fits wrong = ap (state_after lists p) (take-next words i within) ∙ stuck lists p q (take i words) (get_or words i 0) [] fits wrong
 
-pub wrong_at : (start : ℕ × ℕ × ℕ) (words : List ℕ) (lists : Lists) (q : Passed) (i : ℕ) → HasStart lists start → i < length words → behind_all lists (started start) (take i words) ≡ Some q → behind lists q (get_or words i 0) ≡ None
+pub wrong_at : (start : ℕ × ℕ × ℕ) (words : List ℕ) (lists : Lists) (q : ReplayState) (i : ℕ) → HasStart lists start → i < length words → state_after lists (first_state start) (take i words) ≡ Some q → next_state lists q (get_or words i 0) ≡ None
     → IsFirstWrong start words lists i
 wrong_at start words lists q i has within fits wrong = record {
-  wrong = inl (within, λ k. let r = into_passes start (take (i + 1) words) lists k in let no : None ≡ Some r.0 = sym (not_further lists (started start) q words i within fits wrong) ∙ r.1 in absurd cc);
+  wrong = inl (within, λ k. let r = into_passes start (take (i + 1) words) lists k in let no : None ≡ Some r.0 = sym (not_further lists (first_state start) q words i within fits wrong) ∙ r.1 in absurd cc);
   least = none_earlier start words lists q i has (omega arith) fits;
 }
 
-pub leads_not_past : (start : ℕ × ℕ × ℕ) (words : List ℕ) (lists : Lists) (q : Passed) (i : ℕ) → i < length words → behind_all lists (started start) (take i words) ≡ Some q → behind lists q (get_or words i 0) ≡ None
+pub leads_not_past : (start : ℕ × ℕ × ℕ) (words : List ℕ) (lists : Lists) (q : ReplayState) (i : ℕ) → i < length words → state_after lists (first_state start) (take i words) ≡ Some q → next_state lists q (get_or words i 0) ≡ None
     → ¬ LeadsTo start words lists
 leads_not_past start words lists q i within fits wrong k =
     let r = to_passes start words lists k in
-    let none : behind_all lists (started start) words ≡ None =
-    ap (behind_all lists (started start)) (parted words i within) ∙ stuck lists (started start) q (take i words) (get_or words i 0) (drop (i + 1) words) fits wrong in
+    let none : state_after lists (first_state start) words ≡ None =
+    ap (state_after lists (first_state start)) (parted words i within) ∙ stuck lists (first_state start) q (take i words) (get_or words i 0) (drop (i + 1) words) fits wrong in
     let no : None ≡ Some r.0 = sym none ∙ r.1 in absurd cc
 
 -- where all words pass, and the lists are not whole
-pub leads_not_whole : (start : ℕ × ℕ × ℕ) (words : List ℕ) (lists : Lists) (q : Passed) → behind_all lists (started start) words ≡ Some q → is_end lists q ≡ false → ¬ LeadsTo start words lists
+pub leads_not_whole : (start : ℕ × ℕ × ℕ) (words : List ℕ) (lists : Lists) (q : ReplayState) → state_after lists (first_state start) words ≡ Some q → is_end lists q ≡ false → ¬ LeadsTo start words lists
 leads_not_whole start words lists q fits short k =
     let r = to_passes start words lists k in
     let same : r.0 ≡ q = let z : Some r.0 ≡ Some q = sym r.1 ∙ fits in cc in
     let no : true ≡ false = sym r.2 ∙ ap (is_end lists) same ∙ short in absurd cc
 
-pub wrong_behind : (start : ℕ × ℕ × ℕ) (words : List ℕ) (lists : Lists) (q : Passed) → HasStart lists start → behind_all lists (started start) words ≡ Some q → is_end lists q ≡ false → IsFirstWrong start words lists (length words)
+pub wrong_behind : (start : ℕ × ℕ × ℕ) (words : List ℕ) (lists : Lists) (q : ReplayState) → HasStart lists start → state_after lists (first_state start) words ≡ Some q → is_end lists q ≡ false → IsFirstWrong start words lists (length words)
 wrong_behind start words lists q has fits short = record {
   wrong = inr (refl, leads_not_whole start words lists q fits short);
-  least = none_earlier start words lists q (length words) has (omega arith) (ap (behind_all lists (started start)) (take_all (length words) words (omega arith)) ∙ fits);
+  least = none_earlier start words lists q (length words) has (omega arith) (ap (state_after lists (first_state start)) (take_all (length words) words (omega arith)) ∙ fits);
 }
