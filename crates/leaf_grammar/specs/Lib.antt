@@ -2,3 +2,5 @@ pub mod Kinds
 pub mod Leaf
 pub mod Rows
 pub mod Found
+pub mod Tag
+pub mod Tags

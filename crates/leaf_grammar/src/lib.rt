@@ -5,6 +5,7 @@ mod grammar;
 mod kinds;
 mod parts;
 mod rows;
+mod tag;
 #[cfg(test)]
 mod tests;
 mod walk;
@@ -15,4 +16,5 @@ pub use crate::grammar::{
 pub use crate::kinds::{parts_of_kind, rows_of_kind};
 pub use crate::parts::{holds, past, read, width_bytes};
 pub use crate::rows::row_from;
+pub use crate::tag::{Tag, tag_of};
 pub use crate::walk::{check, record_kind};
