@@ -3,3 +3,7 @@ pub mod Finding
 pub mod Rooms
 pub mod TextLemmas
 pub mod TagLemmas
+pub mod Standing
+pub mod Spelling
+pub mod Reading
+pub mod Leaves

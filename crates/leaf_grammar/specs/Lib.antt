@@ -4,3 +4,4 @@ pub mod Rows
 pub mod Found
 pub mod Tag
 pub mod Tags
+pub mod Spelled
