@@ -113,11 +113,16 @@ either_further true r at n got h =
     member_further r at (parts_of_member (number_at TwoBytes r at)) got b.2
 either_further false r at n got h = pad_further r at n got h
 
+-- the parts of a member stand behind its place
+pub members_at_further : (r : List ℕ) (at : ℕ) (got : Row) → row_at Members r at ≡ Ok got → at < got.at
+unfolding row_at
+members_at_further r at got h = either_further (ltb (slice_index r at) 0xF0) r at (slice_index r at - 0xF0) got h
+
 -- the parts of a row stand at its place or behind it
 pub row_at_on : (rows : Rows) (r : List ℕ) (at : ℕ) (got : Row) → row_at rows r at ≡ Ok got → at ≤ got.at
 unfolding row_at
 row_at_on Methods r at got h = let e : at ≡ got.at = cc in omega arith
-row_at_on Members r at got h = omega (arith, either_further (ltb (slice_index r at) 0xF0) r at (slice_index r at - 0xF0) got h)
+row_at_on Members r at got h = omega (arith, members_at_further r at got h)
 
 -- a row has at least one byte
 pub row_further : (rows : Rows) (r : List ℕ) (at end : ℕ) → row_end rows r at ≡ Ok end → at < end
