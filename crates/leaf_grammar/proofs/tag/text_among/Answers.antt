@@ -3,10 +3,10 @@ use Rattle.leaf_grammar.specs.declared.grammar.Space.TheVariants.{Types}
 use Rattle.leaf_grammar.specs.declared.grammar.Form.TheVariants.{Index}
 use Rattle.leaf_grammar.specs.declared.grammar.Part.TheVariants.{Always}
 use Rattle.leaf_grammar.specs.Found.{found_in}
-use Rattle.type_hash.specs.Texts.{text_from, texts_in}
-use Rattle.type_hash.proofs.TextLemmas.{text_here, no_text_here, slice_get_behind}
-use Rattle.type_hash.proofs.texts.text_among.Goals as goal
-use Rattle.type_hash.proofs.texts.text_among.Goals.{then-is_text+else-left-eq0, else-is_text}
+use Rattle.leaf_grammar.specs.Tag.{text_from, texts_in}
+use Rattle.leaf_grammar.proofs.TextLemmas.{text_here, no_text_here, slice_get_behind}
+use Rattle.leaf_grammar.proofs.tag.text_among.Goals as goal
+use Rattle.leaf_grammar.proofs.tag.text_among.Goals.{then-is_text+else-left-eq0, else-is_text}
 
 pub returns-then-left-eq0 : goal.returns-then-left-eq0
 returns-then-left-eq0 c =

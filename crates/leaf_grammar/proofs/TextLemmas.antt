@@ -8,7 +8,7 @@ use Rattle.leaf_grammar.specs.declared.grammar.Cursor.{Cursor}
 use Rattle.leaf_grammar.specs.Leaf.{past, says}
 use Rattle.leaf_grammar.specs.Found.{found_at, found_in}
 use Rattle.leaf_grammar.proofs.Finding.{found_step}
-use Rattle.type_hash.specs.Texts.{text_from, texts_in, is_text_form, shows_text}
+use Rattle.leaf_grammar.specs.Tag.{text_from, texts_in, is_text_form, shows_text}
 
 texts_in-is : (f : Form) (r : List ℕ) (at : ℕ) → texts_in f r at ≡ cond (is_text_form f) (text_from r at ∷ []) []
 unfolding texts_in
