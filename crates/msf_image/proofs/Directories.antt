@@ -6,6 +6,8 @@ use Rattle.std.proofs.lemmas.List.FromFn.{get_or-map-range_with_len, get_or-rang
 use Rattle.std.proofs.lemmas.Nat.{mul-le}
 use Rattle.std.proofs.Math.Nat.{div-lt_iff_lt-mul, div-mul-le_self, lt-div-mul-add, mul_assoc, mul_comm, suc-mul}
 use Rattle.std.specs.List.{range_with_len}
+use Rattle.std.specs.List.Sorted.{IsStrictlyIncreasing}
+use Rattle.std.proofs.lemmas.List.Kept.{IsStrictlyIncreasing-filter}
 use Rattle.msf_blocks.specs.declared.superblock.Super.{Super}
 use Rattle.msf_blocks.specs.Blocks.{IsMap, map_block, map_blocks}
 use Rattle.msf_blocks.specs.Superblock.{IsSuper}
@@ -81,3 +83,13 @@ unfolding below_where
 free_inside size blocks maps m is =
     let all : All (λ b. b < blocks) (range_with_len 0 blocks) = λ k d lt. omega (arith, lt, length-range_with_len 0 blocks, get_or-range_with_len 0 blocks k d (omega (arith, lt, length-range_with_len 0 blocks))) in
     subst (λ free. All (λ b. b < blocks) free.free) (sym is) (All-filter _ (λ b. b < blocks) (range_with_len 0 blocks) all)
+
+-- and they rise
+pub rising_range : (n : ℕ) → IsStrictlyIncreasing (range_with_len 0 n)
+rising_range n k lt =
+    let len = length-range_with_len 0 n in
+    omega (arith, get_or-range_with_len 0 n k 0 (omega (arith, lt, len)), get_or-range_with_len 0 n (k + 1) 0 (omega (arith, lt, len)))
+
+pub free_rising : (size blocks : ℕ) (maps : List ℕ) (m : FreeBlocks) → m ≡ free_in size blocks maps → IsStrictlyIncreasing m.free
+unfolding below_where
+free_rising size blocks maps m is = subst (λ free. IsStrictlyIncreasing free.free) (sym is) (IsStrictlyIncreasing-filter _ (range_with_len 0 blocks) (rising_range blocks))

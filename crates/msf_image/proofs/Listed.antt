@@ -51,7 +51,7 @@ below_div : (size x n : ℕ) → 0 < size → x < (n + 1) * size → x / size < 
 below_div size x n some below = (div-lt_iff_lt-mul some).1 below
 
 -- blocks of at most so many bytes as a quarter of a block's square
-fit : (size bytes n : ℕ) → 512 ≤ size → size % 8 ≡ 0 → bytes ≤ size * size / 4 → size < 4 * n + 4 → blocks_of_size size bytes ≤ n
+pub fit : (size bytes n : ℕ) → 512 ≤ size → size % 8 ≡ 0 → bytes ≤ size * size / 4 → size < 4 * n + 4 → blocks_of_size size bytes ≤ n
 fit size bytes n least eighth few many =
     let q = size / 4 in
     let whole : size ≡ q * 4 = omega (arith, eighth) in

@@ -1,6 +1,7 @@
 -- The file as it is read: what is told at each stage is what the file tells.
 use Rattle.std.proofs.Common.{◌≡◌, ◌<◌, ◌+◌, ℕ, false, List, [], ◌∷◌, length, drop, All, Option, Result, Ok, Err, sym, ap, subst, ◌∙◌, arith, IsErrAnd, IfOk, OnOk}
 use Rattle.std.specs.List.{flat_map}
+use Rattle.std.specs.List.Sorted.{IsStrictlyIncreasing}
 use Rattle.msf_blocks.specs.declared.superblock.Super.{Super}
 use Rattle.msf_blocks.specs.Blocks.{IsReserved, blocks_of_size}
 use Rattle.msf_blocks.specs.Superblock.{IsSuper}
@@ -63,10 +64,10 @@ at_free file now then last limit s l d m same again more is listed streams free 
 
 -- an image of which all was judged
 pub whole_judged : (r : Result Image OpenFault) (image : Image) (listed : List ℕ) → IsSuper image.head → listed ≡ image.head.map_addr ∷ drop 1 listed → length listed ≡ 1 + blocks_of_size image.head.block image.head.dir_bytes → AreUsable image.head [] listed
-    → IsDirectory image.head listed image.directory → image.free.blocks ≡ image.head.blocks → All (λ b. b < image.head.blocks) image.free.free → All (λ b. ¬ IsReserved image.head.block b) image.free.free
+    → IsDirectory image.head listed image.directory → image.free.blocks ≡ image.head.blocks → All (λ b. b < image.head.blocks) image.free.free → All (λ b. ¬ IsReserved image.head.block b) image.free.free → IsStrictlyIncreasing image.free.free
     → IfOk r (λ judged. judged ≡ image) → OnOk r (All (λ b. is_free image.free b ≡ false) (used_blocks listed image.directory)) → IfOk r IsWhole
-whole_judged (Err fault) image listed head first count usable directory size inside unreserved same none_free = tt
-whole_judged (Ok judged) image listed head first count usable directory size inside unreserved same none_free =
+whole_judged (Err fault) image listed head first count usable directory size inside unreserved rising same none_free = tt
+whole_judged (Ok judged) image listed head first count usable directory size inside unreserved rising same none_free =
     let used = usable_both image.head [] listed (flat_map blocks_in image.directory) usable directory.usable in
     subst IsWhole (sym same) (record {
       head = head;
@@ -78,4 +79,5 @@ whole_judged (Ok judged) image listed head first count usable directory size ins
       size = size;
       inside = inside;
       unreserved = unreserved;
+      rising = rising;
     })

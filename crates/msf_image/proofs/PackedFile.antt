@@ -18,14 +18,14 @@ use Rattle.msf_blocks.proofs.SuperblockTexts.{passes}
 use Rattle.free_page_maps.specs.FreeBlocks.{below_where, free_in, is_free}
 use Rattle.free_page_maps.specs.MapText.{map_text, number_where, map_bit}
 use Rattle.free_page_maps.proofs.MapTexts.{padded_text, text_and_again}
-use Rattle.stream_directory.specs.Directory.{StreamBlocks, directory_text, stream_at, word}
+use Rattle.stream_directory.specs.Directory.{StreamBlocks, blocks_in, directory_text, stream_at, word}
 use Rattle.stream_directory.specs.Reading.{first_bad, reading, unless, words_in}
 use Rattle.stream_directory.proofs.Streams.{Spells-directory_text, none_from_usable, reading_again}
 use Rattle.msf_image.specs.Packed.{IsPackable, block_of, directory_blocks_of, directory_bytes, filled, given, given_from, none_of, packed, packed_content, packed_directory, packed_image, packed_listed, packed_map_addr, packed_super, stream_blocks, stream_bytes, stream_count}
-use Rattle.msf_image.specs.Reads.{active_map_blocks, block_bytes, bytes_of_blocks, content_of, free_blocks_in, listed_blocks, of_file, read_file, streams_in, superblock_in, tested, used_blocks, with_free, unless_free}
+use Rattle.msf_image.specs.Reads.{IsWhole, active_map_blocks, block_bytes, bytes_of_blocks, content_of, free_blocks_in, listed_blocks, of_file, read_file, streams_in, superblock_in, tested, used_blocks, with_free, unless_free}
 use Rattle.msf_image.proofs.Directories.{done, map_inside}
-use Rattle.msf_image.proofs.Giving.{at_each}
 use Rattle.msf_image.proofs.Laying.{contents_laid, length-file_of, length-filled, read_front, read_given, read_map, run_is, run_of}
+use Rattle.msf_image.proofs.Listed.{fit, usable_both}
 use Rattle.msf_image.proofs.Opening.{at_free}
 use Rattle.msf_image.proofs.PackedStreams.{inside_packed, is_directory, is_super, length-packed_text, listed_usable, none_skipped}
 
@@ -126,8 +126,10 @@ words_back (n ∷ words) more h =
     ap (λ k. k ∷ take (length words) (words_in (flat_map word words ++ more))) (little_number-little_bytes n [] h.0) ∙ ap (λ ws. n ∷ ws) (words_back words more h.1)
 
 -- the numbers of the directory's blocks fit in one block
-listed_short : (size : ℕ) → IsBlockSize size → (bytes : ℕ) → bytes ≤ size * size / 4 → 4 * blocks_of_size size bytes ≤ size
-listed_short = at_each (λ size. (bytes : ℕ) → bytes ≤ size * size / 4 → 4 * blocks_of_size size bytes ≤ size) (λ bytes le. omega arith) (λ bytes le. omega arith) (λ bytes le. omega arith) (λ bytes le. omega arith)
+listed_short : (size bytes : ℕ) → IsBlockSize size → bytes ≤ size * size / 4 → 4 * blocks_of_size size bytes ≤ size
+listed_short size bytes h le =
+    let is = sized size h in
+    omega (arith, fit size bytes (size / 4) is.least is.eighth le (omega arith))
 
 length-packed_listed : (size : ℕ) (streams : List (Option (List ℕ))) → length (packed_listed size streams) ≡ directory_blocks_of size streams
 unfolding packed_listed
@@ -162,7 +164,7 @@ packed_blocks_listed : (size unknown : ℕ) (streams : List (Option (List ℕ)))
     → take (directory_blocks_of size streams) (words_in (block_bytes size (packed size unknown streams) (packed_map_addr size streams))) ≡ packed_listed size streams
 packed_blocks_listed size unknown streams p =
     let len = length-packed_listed size streams in
-    let short : 4 * length (packed_listed size streams) ≤ size = omega (arith, len, listed_short size p.block (directory_bytes size streams) p.directory) in
+    let short : 4 * length (packed_listed size streams) ≤ size = omega (arith, len, listed_short size (directory_bytes size streams) p.block p.directory) in
     ap (λ ys. take (directory_blocks_of size streams) (words_in ys)) (map_addr_read size unknown streams p)
     ∙ ap (λ n. take n (words_in (block_of size (packed_content size streams) (stream_blocks size streams + directory_blocks_of size streams)))) (sym len)
     ∙ map_words size (packed_content size streams) (packed_listed size streams) (stream_blocks size streams + directory_blocks_of size streams) short (listed_words size unknown streams p) (behind_text size streams p)
@@ -289,3 +291,28 @@ packed_contents size unknown i streams p =
     let none : 0 * size ≡ 0 = omega arith in
     let at : drop (0 * size) (packed_content size streams) ≡ flat_map (λ stream. filled size (stream_bytes stream)) streams ++ rest = ap (λ m. drop m (packed_content size streams)) none in
     contents_laid (packed_super size unknown streams) (packed size unknown streams) (packed_content size streams) rest streams 0 p.block at (λ k from to. each_given size unknown streams p k (omega (arith, to))) i
+
+-- what it reads as is whole
+all_none : (P : ℕ → Type 0) → All P []
+all_none P k d lt = absurd (omega (arith, lt))
+
+all_used : (blocks : ℕ) (used : List ℕ) → All (λ b. is_free (none_of blocks) b ≡ false) used
+all_used blocks used k d lt = refl
+
+pub packed_whole : (size unknown : ℕ) (streams : List (Option (List ℕ))) → unknown < 2 ^ 32 → IsPackable size streams → IsWhole (packed_image size unknown streams)
+packed_whole size unknown streams fits p =
+    let s = packed_super size unknown streams in
+    let listed = packed_map_addr size streams ∷ packed_listed size streams in
+    let directory = is_directory size unknown streams p in
+    record {
+      head = is_super size unknown streams fits p;
+      blocks = packed_listed size streams;
+      count = length-packed_listed size streams;
+      directory = directory;
+      usable = usable_both s [] listed (flat_map blocks_in (packed_directory size streams)) (listed_usable size unknown streams p) directory.usable;
+      none_free = all_used s.blocks (used_blocks listed (packed_directory size streams));
+      size = refl;
+      inside = all_none (λ b. b < s.blocks);
+      unreserved = all_none (λ b. ¬ IsReserved size b);
+      rising = λ k lt. absurd (omega (arith, lt));
+    }

@@ -1,6 +1,7 @@
 -- What a file reads as: its superblock, its directory and its free blocks; or its first damage.
 use Rattle.std.specs.Prelude.{◌≡◌, ◌<◌, ℕ, List, [], ◌∷◌, ◌++◌, length, All, map, take, drop, find, false, Option, Some, None, Result, Ok, Err}
 use Rattle.std.specs.List.{flat_map, range_with_len}
+use Rattle.std.specs.List.Sorted.{IsStrictlyIncreasing}
 use Rattle.msf_blocks.specs.declared.superblock.Super.{Super}
 use Rattle.msf_blocks.specs.declared.superblock.SuperFault.{SuperFault}
 use Rattle.msf_blocks.specs.Blocks.{IsReserved, blocks_of_size, block_offset, map_block, map_blocks}
@@ -104,6 +105,8 @@ pub record IsWhole (image : Image) : Type 0 where
   pub size : image.free.blocks ≡ image.head.blocks
   pub inside : All (λ b. b < image.head.blocks) image.free.free
   pub unreserved : All (λ b. ¬ IsReserved image.head.block b) image.free.free
+  -- and listed in rising order
+  pub rising : IsStrictlyIncreasing image.free.free
 
 -- The content of a stream: its blocks joined, and cut to its size. An absent stream, and one that is not there, has none.
 abbrev pub content_of : List ℕ → Super → Option StreamBlocks → List ℕ

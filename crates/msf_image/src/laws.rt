@@ -2,12 +2,13 @@ ghost use Rattle.std.specs.Prelude.{◌≡◌, ◌≤◌, ◌<◌, ℕ, ◌^◌,
 ghost use Rattle.msf_blocks.specs.Blocks.{IsBlockSize, IsReserved};
 ghost use Rattle.stream_directory.specs.Directory.{stream_at};
 ghost use Rattle.msf_image.specs.Packed.{IsPackable, given, packed, packed_directory, packed_image, packed_super, stream_bytes};
-ghost use Rattle.msf_image.specs.Reads.{content_of, read_file};
+ghost use Rattle.msf_image.specs.Reads.{IsWhole, content_of, read_file};
 
 /// A law: a packed file reads as its streams, with no free block, whatever the number without a known meaning is and
 /// also where streams are absent.
 pub fn packed_file_reads()
     ensures reads { (size unknown limit : ℕ) (streams : List (Option (List ℕ))) → unknown < 2 ^ 32 → IsPackable size streams → (packed_super size unknown streams).blocks ≤ limit → read_file (packed size unknown streams) limit ≡ Ok (packed_image size unknown streams) }
+    ensures whole { (size unknown : ℕ) (streams : List (Option (List ℕ))) → unknown < 2 ^ 32 → IsPackable size streams → IsWhole (packed_image size unknown streams) }
     ensures contents { (size unknown i : ℕ) (streams : List (Option (List ℕ))) → IsPackable size streams → content_of (packed size unknown streams) (packed_super size unknown streams) (stream_at (packed_directory size streams) i) ≡ stream_bytes (slice_index_or streams i None) }
 {}
 

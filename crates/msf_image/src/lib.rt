@@ -12,7 +12,7 @@ pub use crate::fault::{DamageKind, OpenFault};
 pub use crate::image::Image;
 pub use crate::laws::{given_in_order, packed_file_reads};
 pub use crate::open::open_image;
-pub use crate::packed::{is_packable, new_file};
+pub use crate::packed::{NewImage, is_packable, new_file, new_image};
 
 #[cfg(test)]
 mod open_tests;

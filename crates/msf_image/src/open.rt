@@ -2,6 +2,7 @@
 
 ghost use Rattle.std.specs.Prelude.{◌≡◌, ◌≤◌, ◌<◌, ◌+◌, ◌*◌, ◌^◌, IsTrue, false, All, Ok, [], ◌∷◌, find, length, take, drop, IfOk, OnOk, IsErrOf};
 ghost use Rattle.std.specs.List.{flat_map};
+ghost use Rattle.std.specs.List.Sorted.{IsStrictlyIncreasing};
 ghost use Rattle.srv_edge.specs.Count.{Rose};
 ghost use Rattle.srv_edge.specs.Disk.{LeavesOnly};
 ghost use Rattle.msf_blocks.specs.Blocks.{IsReserved, blocks_of_size};
@@ -160,6 +161,7 @@ fn read_free_blocks<D: Device>(
     ensures blocks { IfOk result (λ m. m.blocks ≡ head.now.blocks) }
     ensures inside { IfOk result (λ m. All (λ b. b < head.now.blocks) m.free) }
     ensures unreserved { IfOk result (λ m. All (λ b. ¬ IsReserved head.now.block b) m.free) }
+    ensures rising { IfOk result (λ m. IsStrictlyIncreasing m.free) }
     ensures reads { IsTrue D.tells → Tells (λ free. free) result (Ok (free_blocks_in (D.seen device.old) head.now)) }
     ensures disk_fault { IsErrOf result OpenFault.DiskFault → Rose (D.fault_count device.old) (D.fault_count device.new) }
     ensures seen { D.seen device.new ≡ D.seen device.old }

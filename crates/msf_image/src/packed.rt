@@ -6,9 +6,10 @@ ghost use Rattle.msf_blocks.specs.Blocks.{IsBlockSize};
 ghost use Rattle.msf_blocks.specs.Superblock.{superblock_text};
 ghost use Rattle.free_page_maps.specs.MapText.{map_text};
 ghost use Rattle.stream_directory.specs.Directory.{absent_size, stream_at, word};
-ghost use Rattle.msf_image.specs.Reads.{content_of, read_file};
-ghost use Rattle.msf_image.specs.Packed.{IsPackable, IsSmall, block_of, file_block, file_of, filled, given, given_before, given_from, none_of, packed, packed_directory, packed_image, packed_map_addr, packed_super, present, stream_blocks, stream_bytes};
+ghost use Rattle.msf_image.specs.Reads.{IsWhole, content_of, read_file};
+ghost use Rattle.msf_image.specs.Packed.{IsPackable, IsSmall, block_of, file_block, file_of, filled, given, given_before, given_from, none_of, packed, packed_directory, packed_image, packed_listed, packed_map_addr, packed_super, present, stream_blocks, stream_bytes};
 
+use crate::image::Image;
 use free_page_maps::FreeMap;
 use msf_blocks::{Super, blocks_of_size, is_block_size, write_super};
 use srv_edge::{Text, word};
@@ -98,20 +99,33 @@ fn stream_blocks(block: u32, streams: &[Text]) -> u64
     sum
 }
 
-// The file of streams that it can hold.
-fn lay_file(alloc: Global, block: u32, streams: &[Text]) -> Result<Vec<u8>, AllocError>
+/// What a packed file reads as, and the blocks in which its directory lies.
+#[derive(Drop)]
+pub struct NewImage {
+    pub image: Image,
+    pub listed: Vec<u32>,
+}
+
+/// The image of the packed file of these streams, whose number without a known meaning is 0. It takes memory for the
+/// directory and the map alone.
+pub fn new_image(alloc: Global, block: u32, streams: &[Text]) -> Result<NewImage, AllocError>
     requires { IsPackable block (present streams.now) }
-    ensures { IfOk result (λ file. file.items ≡ packed block 0 (present streams.now)) }
+    ensures image { IfOk result (λ new. new.image ≡ packed_image block 0 (present streams.now)) }
+    ensures listed { IfOk result (λ new. new.listed.items ≡ packed_listed block (present streams.now)) }
+    ensures whole { IfOk result (λ new. IsWhole new.image) }
+{
+    lay_image(alloc, block, streams)
+}
+
+fn lay_image(alloc: Global, block: u32, streams: &[Text]) -> Result<NewImage, AllocError>
+    requires { IsPackable block (present streams.now) }
+    ensures image { IfOk result (λ new. new.image ≡ packed_image block 0 (present streams.now)) }
+    ensures listed { IfOk result (λ new. new.listed.items ≡ packed_listed block (present streams.now)) }
 {
     let kept = stream_blocks(block, streams) as u32;
-    let directory = directory_of(alloc, block, streams)?;
-    let text = write_directory(alloc, &directory)?;
-    let dir_bytes = text.len() as u32;
+    let dir_bytes = 4 + 4 * streams.len() as u32 + 4 * kept;
     let count = blocks_of_size(block, dir_bytes);
-    let listed = given_from(alloc, block, kept, count)?;
-    let last = kept + count;
-    let content = content_of(alloc, block, last, streams, &text, &listed)?;
-    let map_addr = given(block, last);
+    let map_addr = given(block, kept + count);
     let head = Super {
         block,
         map: 1,
@@ -120,8 +134,36 @@ fn lay_file(alloc: Global, block: u32, streams: &[Text]) -> Result<Vec<u8>, Allo
         unknown: 0,
         map_addr,
     };
-    let map = map_of_none(alloc, block, head.blocks)?;
-    file_of(alloc, &head, &map, &content)
+    let directory = directory_of(alloc, block, streams)?;
+    let listed = given_from(alloc, block, kept, count)?;
+    let free = none_free(alloc, block, head.blocks)?;
+    Ok(NewImage {
+        image: Image {
+            head,
+            directory,
+            free,
+        },
+        listed,
+    })
+}
+
+// The file of streams that it can hold.
+fn lay_file(alloc: Global, block: u32, streams: &[Text]) -> Result<Vec<u8>, AllocError>
+    requires { IsPackable block (present streams.now) }
+    ensures { IfOk result (λ file. file.items ≡ packed block 0 (present streams.now)) }
+{
+    let new = lay_image(alloc, block, streams)?;
+    let text = write_directory(alloc, &new.image.directory)?;
+    let content = content_of(
+        alloc,
+        block,
+        new.image.head.blocks,
+        streams,
+        &text,
+        &new.listed,
+    )?;
+    let map = new.image.free.scatter(alloc, block)?;
+    file_of(alloc, &new.image.head, &map, &content)
 }
 
 // The directory: each stream with the blocks that come next.
@@ -164,11 +206,11 @@ fn given(block: u32, k: u32) -> u32
     3 + k + 2 * (k / (block - 2))
 }
 
-// What the given blocks hold, of which the last is the block map.
+// What the given blocks hold. It takes memory for so many blocks.
 fn content_of(
     alloc: Global,
     block: u32,
-    last: u32,
+    room: u32,
     streams: &[Text],
     text: &[u8],
     listed: &[u32],
@@ -178,7 +220,7 @@ fn content_of(
     requires short { length text.now < absent_size }
     ensures { IfOk result (λ content. content.items ≡ flat_map (filled block) streams.now ++ (filled block text.now ++ flat_map word listed.now)) }
 {
-    let mut content = Vec::with_capacity(alloc, (last as usize + 1) * block as usize)?;
+    let mut content = Vec::with_capacity(alloc, room as usize * block as usize)?;
     for stream in streams {
         put_filled(&mut content, block, stream.bytes())?;
     }
@@ -217,14 +259,13 @@ fn put_words(bytes: &mut Vec<u8>, words: &[u32]) -> Result<(), AllocError>
     Ok(())
 }
 
-// The meaningful blocks of a map of which no block is free.
-fn map_of_none(alloc: Global, block: u32, blocks: u32) -> Result<Vec<u8>, AllocError>
+// So many blocks of which none is free.
+fn none_free(alloc: Global, block: u32, blocks: u32) -> Result<FreeMap, AllocError>
     requires size { IsBlockSize block }
-    ensures { IfOk result (λ map. map.items ≡ map_text block (none_of blocks)) }
+    ensures { IfOk result (λ free. free ≡ none_of blocks) }
 {
     let zeros = vec![in alloc; 0; blocks as usize / 8 + 1]?;
-    let free = FreeMap::gather(alloc, block, blocks, &zeros)?;
-    free.scatter(alloc, block)
+    FreeMap::gather(alloc, block, blocks, &zeros)
 }
 
 // The blocks of the file, joined.

@@ -1,4 +1,4 @@
-use Rattle.msf_image.proofs.PackedFile.{packed_contents, packed_reads}
+use Rattle.msf_image.proofs.PackedFile.{packed_contents, packed_reads, packed_whole}
 use Rattle.msf_image.proofs.laws.packed_file_reads.Goals as goal
 
 pub returns-clause-reads : goal.returns-clause-reads
@@ -6,3 +6,6 @@ returns-clause-reads c = packed_reads
 
 pub returns-clause-contents : goal.returns-clause-contents
 returns-clause-contents c = packed_contents
+
+pub returns-clause-whole : goal.returns-clause-whole
+returns-clause-whole c = packed_whole

@@ -33,7 +33,7 @@ returns-clause-whole g c =
     let free = c.in_ok-free.ensures in
     let directory = subst (λ l. IsDirectory c.in_ok-head.head l c.in_ok-directory.directory) c.deref.ensures.value c.in_ok-directory.ensures.found in
     let none_free = subst (λ l. OnOk c.judge_used.result (All (λ b. is_free c.in_ok-free.free b ≡ false) (used_blocks l c.in_ok-directory.directory))) c.deref-2.ensures.value c.judge_used.ensures.none_free in
-    whole_judged c.judge_used.result image _ c.in_ok-head.ensures.passes listed.block_map listed.count listed.usable directory free.blocks free.inside free.unreserved c.judge_used.ensures.same none_free
+    whole_judged c.judge_used.result image _ c.in_ok-head.ensures.passes listed.block_map listed.count listed.usable directory free.blocks free.inside free.unreserved free.rising c.judge_used.ensures.same none_free
 
 pub returns-clause-any_moment : goal.returns-clause-any_moment
 returns-clause-any_moment g c =
