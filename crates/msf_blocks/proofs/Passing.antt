@@ -29,7 +29,7 @@ pub record Leaves (s : Super) (file_len limit : ℕ) : Type 0 where
   pub limited : s.blocks ≤ limit
   pub inside : s.blocks * s.block ≤ file_len
 
-pub leaves : (s : Super) (file_len limit : ℕ) → limit < 2 ^ 32 → s.unknown < 2 ^ 32 → first_fault (number_tests s file_len limit) ≡ None → Leaves s file_len limit
+pub leaves : (s : Super) (file_len limit : ℕ) → s.blocks < 2 ^ 32 → s.unknown < 2 ^ 32 → first_fault (number_tests s file_len limit) ≡ None → Leaves s file_len limit
 leaves s file_len limit few fits e =
     let t5 : List (Bool × SuperFault) = [] in
     let t4 : List (Bool × SuperFault) = (has_map_addr s, MapAddr) ∷ t5 in
@@ -51,7 +51,7 @@ leaves s file_len limit few fits e =
         block = a.0;
         map = map_from_test s.map b.0;
         least_blocks = leb-true 4 s.blocks counted.0;
-        blocks_fit = omega (arith, few, limited);
+        blocks_fit = few;
         least_dir_bytes = leb-true 4 s.dir_bytes dir.0;
         most_dir_bytes = leb-true s.dir_bytes (s.block * s.block / 4) dir.1;
         unknown_fits = fits;

@@ -79,19 +79,20 @@ pub record Found (bytes : List ℕ) (file_len limit : ℕ) (s : Super) : Type 0 
   pub limited : s.blocks ≤ limit
   pub inside : s.blocks * s.block ≤ file_len
 
-found_numbers : (bytes : List ℕ) (file_len limit : ℕ) → AreBytes bytes → limit < 2 ^ 32 → first_fault (superblock_tests bytes file_len limit) ≡ None → Found bytes file_len limit (numbers_of bytes)
-found_numbers bytes file_len limit fits few e =
+found_numbers : (bytes : List ℕ) (file_len limit : ℕ) → AreBytes bytes → first_fault (superblock_tests bytes file_len limit) ≡ None → Found bytes file_len limit (numbers_of bytes)
+found_numbers bytes file_len limit fits e =
     let s = numbers_of bytes in
     let a = was_passed (has_magic bytes file_len) Magic (number_tests s file_len limit) e in
+    let blocks = little_number-lt (drop 40 bytes) (AreBytes-drop 40 bytes fits) in
     let unknown = little_number-lt (drop 48 bytes) (AreBytes-drop 48 bytes fits) in
-    let l = leaves s file_len limit few unknown a.1 in
+    let l = leaves s file_len limit blocks unknown a.1 in
     record { is_super = l.is_super; text = text_of_numbers bytes file_len fits (begins bytes file_len a.0); limited = l.limited; inside = l.inside }
 
 -- The answer at a superblock or at a fault.
-pub found : (bytes : List ℕ) (file_len limit : ℕ) (r : Result Super SuperFault) (P : Super → Type 0) → AreBytes bytes → limit < 2 ^ 32 → Answers r bytes file_len limit
+pub found : (bytes : List ℕ) (file_len limit : ℕ) (r : Result Super SuperFault) (P : Super → Type 0) → AreBytes bytes → Answers r bytes file_len limit
     → ((s : Super) → Found bytes file_len limit s → P s) → IfOk r P
-found bytes file_len limit (Ok s) P fits few h gives = subst P (sym h.1) (gives (numbers_of bytes) (found_numbers bytes file_len limit fits few h.0))
-found bytes file_len limit (Err f) P fits few h gives = tt
+found bytes file_len limit (Ok s) P fits h gives = subst P (sym h.1) (gives (numbers_of bytes) (found_numbers bytes file_len limit fits h.0))
+found bytes file_len limit (Err f) P fits h gives = tt
 
 -- what is spelled so passes every test
 pub passes : (bytes : List ℕ) (file_len limit : ℕ) (s : Super) → Found bytes file_len limit s → (first_fault (superblock_tests bytes file_len limit) ≡ None) × (numbers_of bytes ≡ s)

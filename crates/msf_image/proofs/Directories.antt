@@ -1,5 +1,5 @@
 -- The directory and the free blocks of a file, as they are read.
-use Rattle.std.proofs.Common.{◌≡◌, ◌≤◌, ◌<◌, ◌+◌, ◌*◌, ◌/◌, ◌-◌, ℕ, inl, inr, List, length, map, take, drop, get_or, All, Option, Result, Ok, sym, ap, subst, ◌∙◌, IsErrAnd, arith}
+use Rattle.std.proofs.Common.{◌≡◌, ◌≤◌, ◌<◌, ◌+◌, ◌*◌, ◌/◌, ◌-◌, ℕ, inl, inr, List, ◌∷◌, length, map, take, drop, get_or, All, Option, Result, Ok, sym, ap, subst, ◌∙◌, IsErrAnd, arith}
 use Rattle.std.proofs.lemmas.List.{length-drop, take_all}
 use Rattle.std.proofs.lemmas.List.Elements.{All-filter}
 use Rattle.std.proofs.lemmas.List.FromFn.{get_or-map-range_with_len, get_or-range_with_len, length-map-range_with_len, length-range_with_len}
@@ -32,6 +32,12 @@ streams_ok s file listed text streams is read = streams_as s file listed text is
 pub streams_err : {X : Type 0} (view : X → List (Option StreamBlocks)) (r : Result X OpenFault) (s : Super) (file listed text : List ℕ) (f : DirFault) → text ≡ take s.dir_bytes (bytes_of_blocks s.block file (take (length listed - 1) (drop 1 listed))) → IsErrAnd r (λ x. x ≡ fault_of_directory f)
     → Fails f (reading s listed text) → Tells view r (streams_in file s listed)
 streams_err view r s file listed text f is same fails = subst (Tells view r) (sym (streams_as s file listed text is)) (told_fails view r (reading s listed text) f same fails)
+
+-- a text that the file has in the blocks listed
+pub streams_from_text : (file listed text : List ℕ) (s : Super) (map_addr : ℕ) (streams : List (Option StreamBlocks)) → take s.dir_bytes (bytes_of_blocks s.block file listed) ≡ text → reading s (map_addr ∷ listed) text ≡ Ok streams
+    → streams_in file s (map_addr ∷ listed) ≡ Ok streams
+unfolding streams_in
+streams_from_text file listed text s map_addr streams are read = ap (λ t. of_file (reading s (map_addr ∷ listed) t)) are ∙ ap of_file read
 
 -- how many blocks of a map carry meaning
 below_div : (size x n : ℕ) → 0 < size → x < (n + 1) * size → x / size < n + 1

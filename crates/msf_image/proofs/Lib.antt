@@ -5,6 +5,7 @@ mod Listed
 mod Directories
 mod Searching
 mod Opening
+mod Relating
 mod Giving
 mod Laying
 mod PackedStreams

@@ -82,6 +82,16 @@ usable_both s earlier [] others one two = subst (λ used. AreUsable s used other
 usable_both s earlier (b ∷ blocks) others one two =
     (one.0, one.1, one.2, usable_both s (earlier ++ b ∷ []) blocks others one.3 (subst (λ used. AreUsable s used others) (sym (append_assoc earlier (b ∷ []) blocks)) two))
 
+-- blocks that are usable one after another
+pub usable_front : (s : Super) (earlier blocks others : List ℕ) → AreUsable s earlier (blocks ++ others) → AreUsable s earlier blocks
+usable_front s earlier [] others all = tt
+usable_front s earlier (b ∷ blocks) others all = (all.0, all.1, all.2, usable_front s (earlier ++ b ∷ []) blocks others all.3)
+
+pub usable_behind : (s : Super) (earlier blocks others : List ℕ) → AreUsable s earlier (blocks ++ others) → AreUsable s (earlier ++ blocks) others
+usable_behind s earlier [] others all = subst (λ used. AreUsable s used others) (sym (append-nil earlier)) all
+usable_behind s earlier (b ∷ blocks) others all =
+    subst (λ used. AreUsable s used others) (append_assoc earlier (b ∷ []) blocks) (usable_behind s (earlier ++ b ∷ []) blocks others all.3)
+
 -- the block map is the first
 pub listed_behind : (map_addr : ℕ) (blocks listed : List ℕ) → listed ≡ map_addr ∷ blocks → listed ≡ map_addr ∷ drop 1 listed
 listed_behind map_addr blocks listed is = is ∙ ap (λ xs. map_addr ∷ drop 1 xs) (sym is)
@@ -106,3 +116,10 @@ listed_err view r s file block_map listed f read is same found =
 pub listed_count : (s : Super) (block_map listed : List ℕ) → IsSuper s → length block_map ≡ s.block → listed ≡ s.map_addr ∷ take (blocks_of_size s.block s.dir_bytes) (words_in block_map) → length listed ≡ 1 + blocks_of_size s.block s.dir_bytes
 listed_count s block_map listed is whole same =
     omega (arith, ap length same, length-take-le (blocks_of_size s.block s.dir_bytes) (words_in block_map) (listed_fit s block_map is whole))
+
+-- blocks that the file lists, none of them bad
+pub listed_from : (file listed : List ℕ) (s : Super) → take (blocks_of_size s.block s.dir_bytes) (words_in (block_bytes s.block file s.map_addr)) ≡ listed → first_bad s [] (s.map_addr ∷ listed) ≡ None
+    → listed_blocks file s ≡ Ok (s.map_addr ∷ listed)
+unfolding listed_blocks
+listed_from file listed s are none =
+    ap (λ blocks. of_file (unless (first_bad s [] (s.map_addr ∷ blocks)) (s.map_addr ∷ blocks))) are ∙ ap (λ f. of_file (unless f (s.map_addr ∷ listed))) none

@@ -15,7 +15,7 @@ use Rattle.msf_image.proofs.Directories.{done}
 use Rattle.msf_image.proofs.Listed.{usable_both}
 use Rattle.msf_image.proofs.Superblocks.{told_err}
 
-ok_is : {x y : FreeBlocks} → done x ≡ done y → x ≡ y
+pub ok_is : {x y : FreeBlocks} → done x ≡ done y → x ≡ y
 ok_is is = cc
 
 -- what comes first is read

@@ -1,5 +1,5 @@
 -- A packed file reads as its streams, with no free block.
-use Rattle.std.proofs.Common.{◌≡◌, ◌≤◌, ◌<◌, ◌+◌, ◌-◌, ◌*◌, ◌/◌, ◌%◌, ◌^◌, ◌++◌, ℕ, zero, suc, Bool, false, cond, eqb, List, [], ◌∷◌, length, take, drop, replicate, get_or, find, All, Option, None, Some, Ok, refl, sym, ap, subst, ◌∙◌, arith}
+use Rattle.std.proofs.Common.{◌≡◌, ◌≤◌, ◌<◌, ◌+◌, ◌-◌, ◌*◌, ◌/◌, ◌%◌, ◌^◌, ◌++◌, ℕ, zero, suc, Bool, false, cond, eqb, List, [], ◌∷◌, length, map, take, drop, replicate, get_or, All, Option, refl, sym, ap, subst, ◌∙◌, arith}
 use Rattle.std.specs.Prelude.{filter}
 use Rattle.std.specs.List.{AllByRecursion, flat_map, range_with_len}
 use Rattle.std.proofs.lemmas.List.{append_assoc, append-nil, drop_at, take_at, take-take, length-append}
@@ -11,22 +11,21 @@ use Rattle.std.proofs.Math.Seq.{take-append-add}
 use Rattle.msf_blocks.specs.declared.superblock.Super.{Super}
 use Rattle.msf_blocks.specs.Bits.{has_bit}
 use Rattle.msf_blocks.specs.Blocks.{IsBlockSize, IsReserved, blocks_of_size, map_block, map_blocks}
-use Rattle.msf_blocks.specs.Superblock.{IsSuper, numbers_of, superblock_text}
+use Rattle.msf_blocks.specs.Superblock.{superblock_text}
 use Rattle.msf_blocks.proofs.Numbers.{little_number-little_bytes}
 use Rattle.msf_blocks.proofs.Sizes.{sized}
-use Rattle.msf_blocks.proofs.SuperblockTexts.{passes}
 use Rattle.free_page_maps.specs.FreeBlocks.{below_where, free_in, is_free}
 use Rattle.free_page_maps.specs.MapText.{map_text, number_where, map_bit}
 use Rattle.free_page_maps.proofs.MapTexts.{padded_text, text_and_again}
-use Rattle.stream_directory.specs.Directory.{StreamBlocks, blocks_in, directory_text, stream_at, word}
-use Rattle.stream_directory.specs.Reading.{first_bad, reading, unless, words_in}
-use Rattle.stream_directory.proofs.Streams.{Spells-directory_text, none_from_usable, reading_again}
+use Rattle.stream_directory.specs.Directory.{AreUsable, blocks_in, directory_text, word}
+use Rattle.stream_directory.specs.Reading.{words_in}
+use Rattle.stream_directory.proofs.Streams.{Spells-directory_text}
 use Rattle.msf_image.specs.Packed.{IsPackable, block_of, directory_blocks_of, directory_bytes, filled, given, given_from, none_of, packed, packed_content, packed_directory, packed_image, packed_listed, packed_map_addr, packed_super, stream_blocks, stream_bytes, stream_count}
-use Rattle.msf_image.specs.Reads.{IsWhole, active_map_blocks, block_bytes, bytes_of_blocks, content_of, free_blocks_in, listed_blocks, of_file, read_file, streams_in, superblock_in, tested, used_blocks, with_free, unless_free}
-use Rattle.msf_image.proofs.Directories.{done, map_inside}
+use Rattle.msf_image.specs.Reads.{IsWhole, active_map_blocks, block_bytes, bytes_of_blocks, free_blocks_in, used_blocks}
+use Rattle.msf_image.specs.Relation.{Reads, contents_in, directory_in, stream_in, used_in}
+use Rattle.msf_image.proofs.Directories.{map_inside}
 use Rattle.msf_image.proofs.Laying.{contents_laid, length-file_of, length-filled, read_front, read_given, read_map, run_is, run_of}
 use Rattle.msf_image.proofs.Listed.{fit, usable_both}
-use Rattle.msf_image.proofs.Opening.{at_free}
 use Rattle.msf_image.proofs.PackedStreams.{inside_packed, is_directory, is_super, length-packed_text, listed_usable, none_skipped}
 
 -- ---- the superblock
@@ -43,13 +42,6 @@ front_of size text file least len same =
     let short : 56 ≤ size = omega (arith, least) in
     sym (take-take 56 size file short) ∙ ap (take 56) whole ∙ take-take 56 size (text ++ replicate size 0) short ∙ take_at text (replicate size 0) 56 len
 
-superblock_from : (file : List ℕ) (limit : ℕ) (s : Super) → IsSuper s → take 56 file ≡ superblock_text s → s.blocks ≤ limit → s.blocks * s.block ≤ length file → superblock_in file limit ≡ Ok s
-unfolding superblock_in
-superblock_from file limit s is front few inside =
-    let same : take 56 (take 56 file) ≡ superblock_text s = take-take 56 56 file (omega arith) ∙ front in
-    let found = passes (take 56 file) (length file) limit s (record { is_super = is; text = same; limited = few; inside = inside }) in
-    ap (λ f. tested f (numbers_of (take 56 file))) found.0 ∙ ap Ok found.1
-
 packed_front : (size unknown : ℕ) (streams : List (Option (List ℕ))) → IsPackable size streams → take 56 (packed size unknown streams) ≡ superblock_text (packed_super size unknown streams)
 unfolding packed
 packed_front size unknown streams p =
@@ -60,12 +52,6 @@ pub length-packed : (size unknown : ℕ) (streams : List (Option (List ℕ))) �
 unfolding packed
 length-packed size unknown streams =
     let s = packed_super size unknown streams in length-file_of size (superblock_text s) (map_text size (none_of s.blocks)) (packed_content size streams) s.blocks
-
-packed_superblock : (size unknown limit : ℕ) (streams : List (Option (List ℕ))) → unknown < 2 ^ 32 → IsPackable size streams → packed_map_addr size streams + 1 ≤ limit
-    → superblock_in (packed size unknown streams) limit ≡ Ok (packed_super size unknown streams)
-packed_superblock size unknown limit streams fits p few =
-    let len = length-packed size unknown streams in
-    superblock_from (packed size unknown streams) limit (packed_super size unknown streams) (is_super size unknown streams fits p) (packed_front size unknown streams p) few (omega (arith, len))
 
 -- ---- what the given blocks hold
 
@@ -169,18 +155,6 @@ packed_blocks_listed size unknown streams p =
     ∙ ap (λ n. take n (words_in (block_of size (packed_content size streams) (stream_blocks size streams + directory_blocks_of size streams)))) (sym len)
     ∙ map_words size (packed_content size streams) (packed_listed size streams) (stream_blocks size streams + directory_blocks_of size streams) short (listed_words size unknown streams p) (behind_text size streams p)
 
-listed_from : (file listed : List ℕ) (s : Super) → take (blocks_of_size s.block s.dir_bytes) (words_in (block_bytes s.block file s.map_addr)) ≡ listed → first_bad s [] (s.map_addr ∷ listed) ≡ None
-    → listed_blocks file s ≡ Ok (s.map_addr ∷ listed)
-unfolding listed_blocks
-listed_from file listed s are none =
-    ap (λ blocks. of_file (unless (first_bad s [] (s.map_addr ∷ blocks)) (s.map_addr ∷ blocks))) are ∙ ap (λ f. of_file (unless f (s.map_addr ∷ listed))) none
-
-packed_listed_blocks : (size unknown : ℕ) (streams : List (Option (List ℕ))) → IsPackable size streams
-    → listed_blocks (packed size unknown streams) (packed_super size unknown streams) ≡ Ok (packed_map_addr size streams ∷ packed_listed size streams)
-packed_listed_blocks size unknown streams p =
-    let s = packed_super size unknown streams in
-    listed_from (packed size unknown streams) (packed_listed size streams) s (packed_blocks_listed size unknown streams p) (none_from_usable s [] (packed_map_addr size streams ∷ packed_listed size streams) (listed_usable size unknown streams p))
-
 -- the directory's text is read
 text_read : (size unknown : ℕ) (streams : List (Option (List ℕ))) → IsPackable size streams → bytes_of_blocks size (packed size unknown streams) (packed_listed size streams) ≡ filled size (directory_text (packed_directory size streams))
 unfolding packed_listed
@@ -191,23 +165,6 @@ text_read size unknown streams p =
     let text = filled size (directory_text (packed_directory size streams)) in
     run_of size (packed size unknown streams) content (given size) n d (λ k from to. each_given size unknown streams p k (omega (arith, to)))
     ∙ run_is size content text (flat_map word (given_from size n d)) n d (length-text_filled size streams p) (behind_streams size streams p)
-
-streams_from_text : (file listed text : List ℕ) (s : Super) (map_addr : ℕ) (streams : List (Option StreamBlocks)) → take s.dir_bytes (bytes_of_blocks s.block file listed) ≡ text → reading s (map_addr ∷ listed) text ≡ Ok streams
-    → streams_in file s (map_addr ∷ listed) ≡ Ok streams
-unfolding streams_in
-streams_from_text file listed text s map_addr streams are read = ap (λ t. of_file (reading s (map_addr ∷ listed) t)) are ∙ ap of_file read
-
-packed_streams : (size unknown : ℕ) (streams : List (Option (List ℕ))) → unknown < 2 ^ 32 → IsPackable size streams
-    → streams_in (packed size unknown streams) (packed_super size unknown streams) (packed_map_addr size streams ∷ packed_listed size streams) ≡ Ok (packed_directory size streams)
-packed_streams size unknown streams fits p =
-    let s = packed_super size unknown streams in
-    let directory = packed_directory size streams in
-    let text = directory_text directory in
-    let listed = packed_listed size streams in
-    let pad : List ℕ = replicate (blocks_of_size size (length text) * size - length text) 0 in
-    let cut : take (directory_bytes size streams) (filled size text) ≡ text = take_at text pad (directory_bytes size streams) (length-packed_text size streams p.block) in
-    streams_from_text (packed size unknown streams) listed text s (packed_map_addr size streams) directory (ap (take (directory_bytes size streams)) (text_read size unknown streams p) ∙ cut)
-    (reading_again s (packed_map_addr size streams ∷ listed) text directory (omega (arith, p.blocks)) (is_directory size unknown streams p) (Spells-directory_text size directory text (none_skipped size streams p) refl))
 
 -- ---- the map
 
@@ -259,38 +216,30 @@ packed_free size unknown streams fits p =
     let blocks = packed_map_addr size streams + 1 in
     ap (free_in size blocks) (map_read size unknown streams fits p) ∙ map_again size blocks (omega (arith, (sized size p.block).least))
 
-find_none : (p : ℕ → Bool) → ((b : ℕ) → p b ≡ false) → (xs : List ℕ) → find p xs ≡ None
-find_none p never [] = refl
-find_none p never (x ∷ xs) = ap (λ t. cond t (Some x) (find p xs)) (never x) ∙ find_none p never xs
-
-none_used_free : (used : List ℕ) (s : Super) (directory : List (Option StreamBlocks)) (blocks : ℕ)
-    → with_free used (record { head = s; directory = directory; free = none_of blocks }) ≡ Ok (record { head = s; directory = directory; free = none_of blocks })
-unfolding with_free
-none_used_free used s directory blocks =
-    ap (λ found. unless_free found (record { head = s; directory = directory; free = none_of blocks })) (find_none (is_free (none_of blocks)) (λ b. refl) used)
-
 -- ---- the law
 
-pub packed_reads : (size unknown limit : ℕ) (streams : List (Option (List ℕ))) → unknown < 2 ^ 32 → IsPackable size streams → packed_map_addr size streams + 1 ≤ limit
-    → read_file (packed size unknown streams) limit ≡ Ok (packed_image size unknown streams)
-packed_reads size unknown limit streams fits p few =
+-- the directory's text
+packed_text : (size unknown : ℕ) (streams : List (Option (List ℕ))) → IsPackable size streams → directory_in (packed size unknown streams) (packed_super size unknown streams) ≡ directory_text (packed_directory size streams)
+packed_text size unknown streams p =
+    let text = directory_text (packed_directory size streams) in
+    let pad : List ℕ = replicate (blocks_of_size size (length text) * size - length text) 0 in
+    ap (λ listed. take (directory_bytes size streams) (bytes_of_blocks size (packed size unknown streams) listed)) (packed_blocks_listed size unknown streams p)
+    ∙ ap (take (directory_bytes size streams)) (text_read size unknown streams p) ∙ take_at text pad (directory_bytes size streams) (length-packed_text size streams p.block)
+
+others-map : {A B : Type 0} (f : A → B) (xs : List A) → map f (drop 1 xs) ≡ drop 1 (map f xs)
+others-map f [] = refl
+others-map f (x ∷ xs) = refl
+
+packed_contents : (size unknown : ℕ) (streams : List (Option (List ℕ))) → IsPackable size streams → drop 1 streams ≡ contents_in (packed size unknown streams) (packed_image size unknown streams)
+unfolding packed_directory packed_content
+packed_contents size unknown streams p =
     let file = packed size unknown streams in
     let s = packed_super size unknown streams in
-    let listed = packed_map_addr size streams ∷ packed_listed size streams in
-    let directory = packed_directory size streams in
-    let blocks = packed_map_addr size streams + 1 in
-    at_free file file file file limit s listed directory (none_of blocks) refl refl refl (packed_superblock size unknown limit streams fits p few) (packed_listed_blocks size unknown streams p) (packed_streams size unknown streams fits p)
-    (ap done (packed_free size unknown streams fits p))
-    ∙ none_used_free (used_blocks listed directory) s directory blocks
-
-pub packed_contents : (size unknown i : ℕ) (streams : List (Option (List ℕ))) → IsPackable size streams
-    → content_of (packed size unknown streams) (packed_super size unknown streams) (stream_at (packed_directory size streams) i) ≡ stream_bytes (get_or streams i None)
-unfolding packed_directory packed_content
-packed_contents size unknown i streams p =
     let rest = filled size (directory_text (packed_directory size streams)) ++ flat_map word (packed_listed size streams) in
     let none : 0 * size ≡ 0 = omega arith in
     let at : drop (0 * size) (packed_content size streams) ≡ flat_map (λ stream. filled size (stream_bytes stream)) streams ++ rest = ap (λ m. drop m (packed_content size streams)) none in
-    contents_laid (packed_super size unknown streams) (packed size unknown streams) (packed_content size streams) rest streams 0 p.block at (λ k from to. each_given size unknown streams p k (omega (arith, to))) i
+    let all = contents_laid s file (packed_content size streams) rest streams 0 p.block at (λ k from to. each_given size unknown streams p k (omega (arith, to))) in
+    sym (others-map (stream_in file s) (packed_directory size streams) ∙ ap (drop 1) all)
 
 -- what it reads as is whole
 all_none : (P : ℕ → Type 0) → All P []
@@ -298,6 +247,11 @@ all_none P k d lt = absurd (omega (arith, lt))
 
 all_used : (blocks : ℕ) (used : List ℕ) → All (λ b. is_free (none_of blocks) b ≡ false) used
 all_used blocks used k d lt = refl
+
+packed_usable : (size unknown : ℕ) (streams : List (Option (List ℕ))) → IsPackable size streams
+    → AreUsable (packed_super size unknown streams) [] (used_blocks (packed_map_addr size streams ∷ packed_listed size streams) (packed_directory size streams))
+packed_usable size unknown streams p =
+    usable_both (packed_super size unknown streams) [] (packed_map_addr size streams ∷ packed_listed size streams) (flat_map blocks_in (packed_directory size streams)) (listed_usable size unknown streams p) (is_directory size unknown streams p).usable
 
 pub packed_whole : (size unknown : ℕ) (streams : List (Option (List ℕ))) → unknown < 2 ^ 32 → IsPackable size streams → IsWhole (packed_image size unknown streams)
 packed_whole size unknown streams fits p =
@@ -309,10 +263,29 @@ packed_whole size unknown streams fits p =
       blocks = packed_listed size streams;
       count = length-packed_listed size streams;
       directory = directory;
-      usable = usable_both s [] listed (flat_map blocks_in (packed_directory size streams)) (listed_usable size unknown streams p) directory.usable;
+      usable = packed_usable size unknown streams p;
       none_free = all_used s.blocks (used_blocks listed (packed_directory size streams));
       size = refl;
       inside = all_none (λ b. b < s.blocks);
       unreserved = all_none (λ b. ¬ IsReserved size b);
       rising = λ k lt. absurd (omega (arith, lt));
+    }
+
+pub packed_reads : (size unknown limit : ℕ) (streams : List (Option (List ℕ))) → unknown < 2 ^ 32 → IsPackable size streams → packed_map_addr size streams + 1 ≤ limit
+    → Reads (packed size unknown streams) limit (packed_image size unknown streams) (drop 1 streams)
+packed_reads size unknown limit streams fits p few =
+    let s = packed_super size unknown streams in
+    let directory = packed_directory size streams in
+    let whole = packed_whole size unknown streams fits p in
+    record {
+      head = whole.head;
+      text = packed_front size unknown streams p;
+      limited = few;
+      inside = omega (arith, length-packed size unknown streams);
+      spelled = Spells-directory_text size directory (directory_in (packed size unknown streams) s) (none_skipped size streams p) (packed_text size unknown streams p);
+      sized = whole.directory.sized;
+      usable = subst (λ listed. AreUsable s [] (used_blocks (s.map_addr ∷ listed) directory)) (sym (packed_blocks_listed size unknown streams p)) (packed_usable size unknown streams p);
+      free = sym (packed_free size unknown streams fits p);
+      none_free = all_used s.blocks (used_in (packed size unknown streams) (packed_image size unknown streams));
+      contents = packed_contents size unknown streams p;
     }

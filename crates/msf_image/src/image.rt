@@ -1,9 +1,10 @@
-ghost use Rattle.std.specs.Prelude.{◌≡◌, ◌≤◌, ◌*◌, ℕ, IsTrue, length, IfOk, IsErrOf};
+ghost use Rattle.std.specs.Prelude.{◌≡◌, ◌≤◌, ◌*◌, ◌-◌, ℕ, IsTrue, List, [], Option, None, length, slice_index_or, unwrap_or, IfOk, IsErrOf};
 ghost use Rattle.srv_edge.specs.Count.{Rose};
 ghost use Rattle.srv_edge.specs.Disk.{LeavesOnly};
 ghost use Rattle.stream_directory.specs.Directory.{stream_at};
 ghost use Rattle.msf_image.specs.declared.fault.DamageKind.{DamageKind};
 ghost use Rattle.msf_image.specs.Reads.{IsWhole, content_of};
+ghost use Rattle.msf_image.specs.Relation.{Reads};
 
 use crate::blocks::read_blocks;
 use crate::fault::OpenFault;
@@ -33,6 +34,10 @@ impl Image {
         requires whole { IsWhole self.now }
         requires inside { IsTrue D.tells → self.now.head.blocks * self.now.head.block ≤ length (D.seen device.old) }
         ensures content { IsTrue D.tells → IfOk result (λ bytes. bytes.items ≡ content_of (D.seen device.old) self.now.head (stream_at self.now.directory stream)) }
+        // Of a file that reads as this image it is the stream's content.
+        ensures stream { (limit : ℕ) (streams : List (Option (List ℕ))) → IsTrue D.tells → 1 ≤ stream
+            → Reads (D.seen device.old) limit self.now streams
+            → IfOk result (λ bytes. bytes.items ≡ unwrap_or (slice_index_or streams (stream - 1) None) []) }
         ensures no_damage { (kind : DamageKind) (place : ℕ) → ¬ IsErrOf result (OpenFault.Damage kind place) }
         ensures disk_fault { IsErrOf result OpenFault.DiskFault → Rose (D.fault_count device.old) (D.fault_count device.new) }
         ensures seen { D.seen device.new ≡ D.seen device.old }

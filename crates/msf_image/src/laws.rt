@@ -1,15 +1,26 @@
-ghost use Rattle.std.specs.Prelude.{◌≡◌, ◌≤◌, ◌<◌, ℕ, ◌^◌, List, Option, None, Ok, slice_index_or};
+ghost use Rattle.std.specs.Prelude.{◌≡◌, ◌≤◌, ◌<◌, ℕ, ◌^◌, List, All, Option, Ok, drop};
 ghost use Rattle.msf_blocks.specs.Blocks.{IsBlockSize, IsReserved};
-ghost use Rattle.stream_directory.specs.Directory.{stream_at};
-ghost use Rattle.msf_image.specs.Packed.{IsPackable, given, packed, packed_directory, packed_image, packed_super, stream_bytes};
-ghost use Rattle.msf_image.specs.Reads.{IsWhole, content_of, read_file};
+ghost use Rattle.msf_image.specs.declared.image.Image.{Image};
+ghost use Rattle.msf_image.specs.Packed.{IsPackable, given, packed, packed_image, packed_super};
+ghost use Rattle.msf_image.specs.Reads.{IsWhole, read_file};
+ghost use Rattle.msf_image.specs.Relation.{Reads, contents_in};
+
+/// A law: the judgement of a file answers an image exactly where the file reads as it.
+pub fn judged_where_it_reads()
+    ensures judged { (file : List ℕ) (limit : ℕ) (image : Image) (streams : List (Option (List ℕ)))
+        → Reads file limit image streams → read_file file limit ≡ Ok image }
+    ensures reads { (file : List ℕ) (limit : ℕ) (image : Image) → All (λ byte. byte < 2 ^ 8) file
+        → read_file file limit ≡ Ok image → Reads file limit image (contents_in file image) }
+{}
 
 /// A law: a packed file reads as its streams, with no free block, whatever the number without a known meaning is and
 /// also where streams are absent.
 pub fn packed_file_reads()
-    ensures reads { (size unknown limit : ℕ) (streams : List (Option (List ℕ))) → unknown < 2 ^ 32 → IsPackable size streams → (packed_super size unknown streams).blocks ≤ limit → read_file (packed size unknown streams) limit ≡ Ok (packed_image size unknown streams) }
-    ensures whole { (size unknown : ℕ) (streams : List (Option (List ℕ))) → unknown < 2 ^ 32 → IsPackable size streams → IsWhole (packed_image size unknown streams) }
-    ensures contents { (size unknown i : ℕ) (streams : List (Option (List ℕ))) → IsPackable size streams → content_of (packed size unknown streams) (packed_super size unknown streams) (stream_at (packed_directory size streams) i) ≡ stream_bytes (slice_index_or streams i None) }
+    ensures reads { (size unknown limit : ℕ) (streams : List (Option (List ℕ))) → unknown < 2 ^ 32
+        → IsPackable size streams → (packed_super size unknown streams).blocks ≤ limit
+        → Reads (packed size unknown streams) limit (packed_image size unknown streams) (drop 1 streams) }
+    ensures whole { (size unknown : ℕ) (streams : List (Option (List ℕ))) → unknown < 2 ^ 32
+        → IsPackable size streams → IsWhole (packed_image size unknown streams) }
 {}
 
 /// A law: the blocks that a packed file gives are those from 3 on that are not reserved, in rising order and without a

@@ -6,11 +6,12 @@ ghost use Rattle.std.specs.List.Sorted.{IsStrictlyIncreasing};
 ghost use Rattle.srv_edge.specs.Count.{Rose};
 ghost use Rattle.srv_edge.specs.Disk.{LeavesOnly};
 ghost use Rattle.msf_blocks.specs.Blocks.{IsReserved, blocks_of_size};
-ghost use Rattle.msf_blocks.specs.Superblock.{IsSuper};
+ghost use Rattle.msf_blocks.specs.Superblock.{IsSuper, superblock_text};
 ghost use Rattle.free_page_maps.specs.FreeBlocks.{is_free};
-ghost use Rattle.stream_directory.specs.Directory.{AreUsable, IsDirectory, blocks_in};
+ghost use Rattle.stream_directory.specs.Directory.{AreUsable, IsDirectory, Spells, blocks_in};
 ghost use Rattle.stream_directory.specs.Reading.{words_in};
-ghost use Rattle.msf_image.specs.Reads.{IsWhole, Tells, active_map_blocks, free_blocks_in, listed_blocks, read_file, streams_in, superblock_in, used_blocks, with_free};
+ghost use Rattle.msf_image.specs.Reads.{IsWhole, Tells, active_map_blocks, bytes_of_blocks, free_blocks_in, listed_blocks, read_file, streams_in, superblock_in, used_blocks, with_free};
+ghost use Rattle.msf_image.specs.Relation.{Reads, contents_in};
 
 use crate::blocks::{ReadFault, read_blocks};
 use crate::fault::{DamageKind, OpenFault};
@@ -26,6 +27,8 @@ use stream_directory::{Directory, Stream, judge, read_directory_behind, words_of
 pub fn open_image<D: Device>(alloc: Global, device: &mut D, limit: u32) -> Result<Image, OpenFault>
     // What is read is what the file reads as, and the damage is its first.
     ensures reads { IsTrue D.tells → Tells (λ image. image) result (read_file (D.seen device.old) limit) }
+    ensures image { IsTrue D.tells → IfOk result
+        (λ image. Reads (D.seen device.old) limit image (contents_in (D.seen device.old) image)) }
     ensures whole { IfOk result IsWhole }
     ensures limited { IfOk result (λ image. image.head.blocks ≤ limit) }
     ensures inside { IsTrue D.tells → IfOk result (λ image. image.head.blocks * image.head.block ≤ length (D.seen device.old)) }
@@ -55,6 +58,7 @@ fn read_head<D: Device>(device: &mut D, limit: u32) -> Result<Super, OpenFault>
     ensures passes { IfOk result IsSuper }
     ensures limited { IfOk result (λ s. s.blocks ≤ limit) }
     ensures inside { IsTrue D.tells → IfOk result (λ s. s.blocks * s.block ≤ length (D.seen device.old)) }
+    ensures text { IsTrue D.tells → IfOk result (λ s. take 56 (D.seen device.old) ≡ superblock_text s) }
     ensures reads { IsTrue D.tells → Tells (λ s. s) result (superblock_in (D.seen device.old) limit) }
     ensures disk_fault { IsErrOf result OpenFault.DiskFault → Rose (D.fault_count device.old) (D.fault_count device.new) }
     ensures seen { D.seen device.new ≡ D.seen device.old }
@@ -138,6 +142,8 @@ fn read_streams<D: Device>(
     requires used { All (λ b. b < head.now.blocks) listed.now }
     requires count { length listed.now ≡ 1 + blocks_of_size head.now.block head.now.dir_bytes }
     ensures found { IfOk result (IsDirectory head.now listed.now) }
+    ensures spelled { IsTrue D.tells → IfOk result (Spells head.now.block
+        (take head.now.dir_bytes (bytes_of_blocks head.now.block (D.seen device.old) (drop 1 listed.now)))) }
     ensures reads { IsTrue D.tells → Tells (λ streams. streams) result (streams_in (D.seen device.old) head.now listed.now) }
     ensures disk_fault { IsErrOf result OpenFault.DiskFault → Rose (D.fault_count device.old) (D.fault_count device.new) }
     ensures seen { D.seen device.new ≡ D.seen device.old }

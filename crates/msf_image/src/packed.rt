@@ -1,12 +1,13 @@
 //! The packed file: streams in a file that has no free block. docs/FORMAT.md says where each block stands.
 
-ghost use Rattle.std.specs.Prelude.{◌≡◌, ◌≤◌, ◌<◌, ◌↔◌, ℕ, ◌+◌, ◌*◌, ◌^◌, ◌++◌, [], Ok, None, All, length, replicate, slice_index_or, IsTrue, IfOk, OnOk};
+ghost use Rattle.std.specs.Prelude.{◌≡◌, ◌≤◌, ◌<◌, ◌↔◌, ℕ, ◌+◌, ◌*◌, ◌^◌, ◌++◌, [], None, All, drop, length, replicate, slice_index_or, IsTrue, IfOk, OnOk};
 ghost use Rattle.std.specs.List.{flat_map};
 ghost use Rattle.msf_blocks.specs.Blocks.{IsBlockSize};
 ghost use Rattle.msf_blocks.specs.Superblock.{superblock_text};
 ghost use Rattle.free_page_maps.specs.MapText.{map_text};
-ghost use Rattle.stream_directory.specs.Directory.{absent_size, stream_at, word};
-ghost use Rattle.msf_image.specs.Reads.{IsWhole, content_of, read_file};
+ghost use Rattle.stream_directory.specs.Directory.{absent_size, word};
+ghost use Rattle.msf_image.specs.Reads.{IsWhole};
+ghost use Rattle.msf_image.specs.Relation.{Reads};
 ghost use Rattle.msf_image.specs.Packed.{IsPackable, IsSmall, block_of, file_block, file_of, filled, given, given_before, given_from, none_of, packed, packed_directory, packed_image, packed_listed, packed_map_addr, packed_super, present, stream_blocks, stream_bytes};
 
 use crate::image::Image;
@@ -27,8 +28,9 @@ pub fn new_file(alloc: Global, block: u32, streams: &[Text]) -> Result<Vec<u8>, 
     requires { IsPackable block (present streams.now) }
     ensures packed { IfOk result (λ file. file.items ≡ packed block 0 (present streams.now)) }
     // It reads as these streams, with no free block.
-    ensures reads { (limit : ℕ) → (packed_super block 0 (present streams.now)).blocks ≤ limit → IfOk result (λ file. read_file file.items limit ≡ Ok (packed_image block 0 (present streams.now))) }
-    ensures contents { (i : ℕ) → IfOk result (λ file. content_of file.items (packed_super block 0 (present streams.now)) (stream_at (packed_directory block (present streams.now)) i) ≡ slice_index_or streams.now i []) }
+    ensures reads { (limit : ℕ) → (packed_super block 0 (present streams.now)).blocks ≤ limit
+        → IfOk result (λ file. Reads file.items limit (packed_image block 0 (present streams.now))
+        (drop 1 (present streams.now))) }
 {
     lay_file(alloc, block, streams)
 }

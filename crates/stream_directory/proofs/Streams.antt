@@ -71,7 +71,7 @@ unfolding words_in
 words_in-again [] h = refl
 words_in-again (n ∷ words) h = ap (λ k. k ∷ words_in (flat_map word words)) (little_number-little_bytes n [] h.0) ∙ ap (λ ws. n ∷ ws) (words_in-again words h.1)
 
-length-words : (words : List ℕ) → length (flat_map word words) ≡ 4 * length words
+pub length-words : (words : List ℕ) → length (flat_map word words) ≡ 4 * length words
 length-words [] = refl
 length-words (n ∷ words) = let h = length-words words in omega (arith, h)
 
@@ -314,7 +314,7 @@ pub record IsRead (s : Super) (earlier bytes : List ℕ) (streams : List (Option
   pub directory : IsDirectory s earlier streams
   pub spelled : Spells s.block bytes streams
 
-read_is : (s : Super) (earlier bytes : List ℕ) (streams : List (Option StreamBlocks)) → AreBytes bytes → reading s earlier bytes ≡ Ok streams → IsRead s earlier bytes streams
+pub read_is : (s : Super) (earlier bytes : List ℕ) (streams : List (Option StreamBlocks)) → AreBytes bytes → reading s earlier bytes ≡ Ok streams → IsRead s earlier bytes streams
 unfolding reading
 read_is s earlier bytes streams fits e =
     let skip = λ (sizes : List ℕ). skipped_count s.block sizes in

@@ -6,6 +6,7 @@ use Rattle.msf_image.specs.Reads.{Tells, used_blocks, with_free}
 use Rattle.msf_image.proofs.Directories.{done}
 use Rattle.msf_image.proofs.Moments.{reads_on}
 use Rattle.msf_image.proofs.Opening.{at_free, at_listed, at_streams, at_superblock, told_on, whole_judged}
+use Rattle.msf_image.proofs.Relating.{opened}
 use Rattle.msf_image.proofs.open.open_image.Goals as goal
 
 pub returns-in_err-head-clause-reads : goal.returns-in_err-head-clause-reads
@@ -25,6 +26,14 @@ returns-clause-reads g c = λ tells.
     subst (Tells (λ image. image) c.judge_used.result) (sym (at_free _ _ _ _ _ _ _ _ _ c.in_ok-head.ensures.seen c.in_ok-listed.ensures.seen c.in_ok-directory.ensures.seen (c.in_ok-head.ensures.reads tells)
     (c.in_ok-listed.ensures.reads tells ∙ ap done (sym c.deref.ensures.value)) (c.in_ok-directory.ensures.reads tells) (c.in_ok-free.ensures.reads tells)))
     (subst (λ l. Tells (λ image. image) c.judge_used.result (with_free (used_blocks l c.in_ok-directory.directory) (record { head = c.in_ok-head.head; directory = c.in_ok-directory.directory; free = c.in_ok-free.free }))) (c.deref-2.ensures.value ∙ sym c.deref.ensures.value) c.judge_used.ensures.told)
+
+pub returns-clause-image : goal.returns-clause-image
+returns-clause-image g c = λ tells.
+    let head = c.in_ok-head.ensures in
+    let directory = c.in_ok-directory.ensures in
+    let none_free = subst (λ l. OnOk c.judge_used.result (All (λ b. is_free c.in_ok-free.free b ≡ false) (used_blocks l c.in_ok-directory.directory))) (c.deref-2.ensures.value ∙ sym c.deref.ensures.value) c.judge_used.ensures.none_free in
+    opened c.judge_used.result _ _ _ _ c.args.limit c.in_ok-head.head c.deref.result.now c.in_ok-directory.directory c.in_ok-free.free head.seen c.in_ok-listed.ensures.seen directory.seen head.passes (head.text tells) head.limited (head.inside tells)
+    (c.in_ok-listed.ensures.reads tells ∙ ap done (sym c.deref.ensures.value)) directory.found (directory.spelled tells) (c.in_ok-free.ensures.reads tells) c.judge_used.ensures.same none_free
 
 pub returns-clause-whole : goal.returns-clause-whole
 returns-clause-whole g c =

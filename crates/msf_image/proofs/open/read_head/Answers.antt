@@ -1,5 +1,5 @@
 use Rattle.msf_image.specs.Faults.{fault_of_superblock}
-use Rattle.msf_image.proofs.Superblocks.{superblock_err, superblock_ok, told_err}
+use Rattle.msf_image.proofs.Superblocks.{front_text, superblock_err, superblock_ok, told_err}
 use Rattle.msf_image.proofs.open.read_head.Goals as goal
 
 pub returns-in_err-head-clause-reads : goal.returns-in_err-head-clause-reads
@@ -10,3 +10,7 @@ returns-in_err-head-clause-reads g c = λ tells.
 pub returns-clause-reads : goal.returns-clause-reads
 returns-clause-reads g c = λ tells.
     superblock_ok _ _ _ _ c.in_ok-head.head (c.in_ok-bytes.ensures.len tells) (c.in_ok-bytes.ensures.bytes tells) c.in_ok-head.ensures.exact
+
+pub returns-clause-text : goal.returns-clause-text
+returns-clause-text g c = λ tells.
+    front_text _ _ _ c.in_ok-head.head c.in_ok-head.ensures.passes c.in_ok-head.ensures.inside (c.in_ok-bytes.ensures.bytes tells) c.in_ok-head.ensures.text

@@ -1,4 +1,4 @@
-use Rattle.std.proofs.Common.{◌≡◌, ◌∙◌, length, ap, subst, arith}
+use Rattle.std.proofs.Common.{◌≡◌, ◌∙◌, subst, arith}
 use Rattle.std.specs.Prelude.{IfOk}
 use Rattle.msf_image.specs.Packed.{present}
 use Rattle.msf_image.proofs.PackedLoops.{has_room, length-text, packed_of, sizes_of}

@@ -1,7 +1,7 @@
 use Rattle.std.proofs.Common.{◌+◌, ◌*◌, length, ap, ◌∙◌, arith}
 use Rattle.msf_blocks.specs.Blocks.{blocks_of_size}
 use Rattle.msf_image.specs.Packed.{present}
-use Rattle.msf_image.proofs.PackedLoops.{addr_as, bytes_as, has_room, image_as, length-present, listed_as, sizes_of}
+use Rattle.msf_image.proofs.PackedLoops.{addr_as, bytes_as, has_room, image_as, listed_as, sizes_of}
 use Rattle.msf_image.proofs.packed.lay_image.Goals as goal
 
 pub stream_blocks-kept-requires-clause-sizes : goal.stream_blocks-kept-requires-clause-sizes

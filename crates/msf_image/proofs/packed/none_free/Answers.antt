@@ -1,7 +1,6 @@
 use Rattle.std.proofs.Common.{◌≡◌, ap, subst, ◌∙◌, ◌+◌, ◌/◌}
 use Rattle.std.specs.Prelude.{IfOk}
 use Rattle.free_page_maps.specs.FreeBlocks.{free_in}
-use Rattle.msf_image.specs.Packed.{none_of}
 use Rattle.msf_image.proofs.PackedLoops.{zeros_free}
 use Rattle.msf_image.proofs.packed.none_free.Goals as goal
 
