@@ -1,5 +1,5 @@
 -- A packed file reads as its streams, with no free block.
-use Rattle.std.proofs.Common.{◌≡◌, ◌≤◌, ◌<◌, ◌+◌, ◌-◌, ◌*◌, ◌/◌, ◌%◌, ◌^◌, ◌++◌, ℕ, zero, suc, Bool, false, cond, eqb, List, [], ◌∷◌, length, map, take, drop, replicate, get_or, All, Option, refl, sym, ap, subst, ◌∙◌, arith}
+use Rattle.std.proofs.Common.{◌≡◌, ◌≤◌, ◌<◌, ◌+◌, ◌-◌, ◌*◌, ◌/◌, ◌%◌, ◌^◌, ◌++◌, ◌&&◌, not, ℕ, zero, suc, Bool, true, false, cond, eqb, List, [], ◌∷◌, length, map, take, drop, replicate, get_or, All, Option, refl, sym, ap, subst, ◌∙◌, arith}
 use Rattle.std.specs.Prelude.{filter}
 use Rattle.std.specs.List.{AllByRecursion, flat_map, range_with_len}
 use Rattle.std.proofs.lemmas.List.{append_assoc, append-nil, drop_at, take_at, take-take, length-append}
@@ -10,13 +10,13 @@ use Rattle.std.proofs.Math.Nat.{add-mul}
 use Rattle.std.proofs.Math.Seq.{take-append-add}
 use Rattle.msf_blocks.specs.declared.superblock.Super.{Super}
 use Rattle.msf_blocks.specs.Bits.{has_bit}
-use Rattle.msf_blocks.specs.Blocks.{IsBlockSize, IsReserved, blocks_of_size, map_block, map_blocks}
+use Rattle.msf_blocks.specs.Blocks.{IsBlockSize, IsReserved, blocks_of_size, is_reserved, map_block, map_blocks}
 use Rattle.msf_blocks.specs.Superblock.{superblock_text}
 use Rattle.msf_blocks.proofs.Numbers.{little_number-little_bytes}
 use Rattle.msf_blocks.proofs.Sizes.{sized}
-use Rattle.free_page_maps.specs.FreeBlocks.{below_where, free_in, is_free}
+use Rattle.free_page_maps.specs.FreeBlocks.{below_where, free_in, is_free, unreserved_where}
 use Rattle.free_page_maps.specs.MapText.{map_text, number_where, map_bit}
-use Rattle.free_page_maps.proofs.MapTexts.{padded_text, text_and_again}
+use Rattle.free_page_maps.proofs.MapTexts.{length-map_text, map_again}
 use Rattle.stream_directory.specs.Directory.{AreUsable, blocks_in, directory_text, word}
 use Rattle.stream_directory.specs.Reading.{words_in}
 use Rattle.stream_directory.proofs.Streams.{Spells-directory_text}
@@ -30,7 +30,7 @@ use Rattle.msf_image.proofs.PackedStreams.{inside_packed, is_directory, is_super
 
 -- ---- the superblock
 
-length-superblock_text : (s : Super) → length (superblock_text s) ≡ 56
+pub length-superblock_text : (s : Super) → length (superblock_text s) ≡ 56
 unfolding superblock_text
 length-superblock_text s = refl
 
@@ -42,7 +42,7 @@ front_of size text file least len same =
     let short : 56 ≤ size = omega (arith, least) in
     sym (take-take 56 size file short) ∙ ap (take 56) whole ∙ take-take 56 size (text ++ replicate size 0) short ∙ take_at text (replicate size 0) 56 len
 
-packed_front : (size unknown : ℕ) (streams : List (Option (List ℕ))) → IsPackable size streams → take 56 (packed size unknown streams) ≡ superblock_text (packed_super size unknown streams)
+pub packed_front : (size unknown : ℕ) (streams : List (Option (List ℕ))) → IsPackable size streams → take 56 (packed size unknown streams) ≡ superblock_text (packed_super size unknown streams)
 unfolding packed
 packed_front size unknown streams p =
     let s = packed_super size unknown streams in
@@ -100,19 +100,19 @@ given_words size a zero most few below = tt
 given_words size a (suc n) most few below =
     (omega (arith, few, below a (omega arith) (omega arith)), given_words size (a + 1) n most few (λ k from to. below k (omega (arith, from)) (omega (arith, to))))
 
-length-word_text : (words : List ℕ) → length (flat_map word words) ≡ 4 * length words
+pub length-word_text : (words : List ℕ) → length (flat_map word words) ≡ 4 * length words
 length-word_text [] = refl
 length-word_text (n ∷ words) = let h = length-word_text words in omega (arith, h)
 
 -- the words of the bytes of words, whatever stands behind
-words_back : (words more : List ℕ) → AllByRecursion (λ b. b < 2 ^ 32) words → take (length words) (words_in (flat_map word words ++ more)) ≡ words
+pub words_back : (words more : List ℕ) → AllByRecursion (λ b. b < 2 ^ 32) words → take (length words) (words_in (flat_map word words ++ more)) ≡ words
 unfolding words_in
 words_back [] more h = refl
 words_back (n ∷ words) more h =
     ap (λ k. k ∷ take (length words) (words_in (flat_map word words ++ more))) (little_number-little_bytes n [] h.0) ∙ ap (λ ws. n ∷ ws) (words_back words more h.1)
 
 -- the numbers of the directory's blocks fit in one block
-listed_short : (size bytes : ℕ) → IsBlockSize size → bytes ≤ size * size / 4 → 4 * blocks_of_size size bytes ≤ size
+pub listed_short : (size bytes : ℕ) → IsBlockSize size → bytes ≤ size * size / 4 → 4 * blocks_of_size size bytes ≤ size
 listed_short size bytes h le =
     let is = sized size h in
     omega (arith, fit size bytes (size / 4) is.least is.eighth le (omega arith))
@@ -136,7 +136,7 @@ part_front : (size k : ℕ) (bytes xs : List ℕ) → length xs ≤ size → dro
 unfolding block_of
 part_front size k bytes xs short at = (take (size - length xs) (replicate size 0), ap (λ ys. take size (ys ++ replicate size 0)) at ∙ front_and_more size xs (replicate size 0) short)
 
-map_words : (size : ℕ) (bytes words : List ℕ) (k : ℕ) → 4 * length words ≤ size → AllByRecursion (λ b. b < 2 ^ 32) words → drop (k * size) bytes ≡ flat_map word words → take (length words) (words_in (block_of size bytes k)) ≡ words
+pub map_words : (size : ℕ) (bytes words : List ℕ) (k : ℕ) → 4 * length words ≤ size → AllByRecursion (λ b. b < 2 ^ 32) words → drop (k * size) bytes ≡ flat_map word words → take (length words) (words_in (block_of size bytes k)) ≡ words
 map_words size bytes words k short fits at =
     let front = part_front size k bytes (flat_map word words) (omega (arith, length-word_text words, short)) at in
     ap (λ ys. take (length words) (words_in ys)) front.1 ∙ words_back words front.0 fits
@@ -146,7 +146,7 @@ map_addr_read : (size unknown : ℕ) (streams : List (Option (List ℕ))) → Is
 unfolding packed_map_addr
 map_addr_read size unknown streams p = each_given size unknown streams p (stream_blocks size streams + directory_blocks_of size streams) (omega arith)
 
-packed_blocks_listed : (size unknown : ℕ) (streams : List (Option (List ℕ))) → IsPackable size streams
+pub packed_blocks_listed : (size unknown : ℕ) (streams : List (Option (List ℕ))) → IsPackable size streams
     → take (directory_blocks_of size streams) (words_in (block_bytes size (packed size unknown streams) (packed_map_addr size streams))) ≡ packed_listed size streams
 packed_blocks_listed size unknown streams p =
     let len = length-packed_listed size streams in
@@ -156,7 +156,7 @@ packed_blocks_listed size unknown streams p =
     ∙ map_words size (packed_content size streams) (packed_listed size streams) (stream_blocks size streams + directory_blocks_of size streams) short (listed_words size unknown streams p) (behind_text size streams p)
 
 -- the directory's text is read
-text_read : (size unknown : ℕ) (streams : List (Option (List ℕ))) → IsPackable size streams → bytes_of_blocks size (packed size unknown streams) (packed_listed size streams) ≡ filled size (directory_text (packed_directory size streams))
+pub text_read : (size unknown : ℕ) (streams : List (Option (List ℕ))) → IsPackable size streams → bytes_of_blocks size (packed size unknown streams) (packed_listed size streams) ≡ filled size (directory_text (packed_directory size streams))
 unfolding packed_listed
 text_read size unknown streams p =
     let n = stream_blocks size streams in
@@ -168,10 +168,6 @@ text_read size unknown streams p =
 
 -- ---- the map
 
-length-map_text : (size blocks : ℕ) → length (map_text size (none_of blocks)) ≡ map_blocks size blocks * size
-unfolding map_text
-length-map_text size blocks = length-map-range_with_len (λ i. number_where 8 (λ k. map_bit (none_of blocks) (8 * i + k))) 0 (map_blocks size blocks * size)
-
 none_pass : (p : ℕ → Bool) → ((b : ℕ) → p b ≡ false) → (xs : List ℕ) → filter p xs ≡ []
 none_pass p never [] = refl
 none_pass p never (x ∷ xs) = ap (λ t. cond t (x ∷ filter p xs) (filter p xs)) (never x) ∙ none_pass p never xs
@@ -181,15 +177,14 @@ unfolding below_where
 none_below blocks p never = none_pass p never (range_with_len 0 blocks)
 
 -- a map that says that no block is free is read so
-map_again : (size blocks : ℕ) → 0 < size → free_in size blocks (map_text size (none_of blocks)) ≡ none_of blocks
-map_again size blocks some =
-    let none : List ℕ = [] in
-    let bits = below_where blocks (has_bit none) in
-    let empty : bits ≡ [] = none_below blocks (has_bit none) (λ b. ap (λ x. eqb x 1) (bit_at-zero (b % 8))) in
-    let all : All (λ b. ¬ IsReserved size b) bits = subst (All (λ b. ¬ IsReserved size b)) (sym empty) (λ k d lt. absurd (omega (arith, lt))) in
-    let again = text_and_again size blocks none (padded_text blocks none (map_blocks size blocks * size)) some all refl in
-    let same : record { blocks = blocks; free = bits } ≡ none_of blocks = ap (λ free. record { blocks = blocks; free = free }) empty in
-    ap (λ m. free_in size blocks (map_text size m)) (sym same) ∙ ap (free_in size blocks) (sym again.0) ∙ again.1 ∙ same
+none_again : (size blocks : ℕ) → 0 < size → free_in size blocks (map_text size (none_of blocks)) ≡ none_of blocks
+none_again size blocks some =
+    let none : unreserved_where size blocks (λ _. false) ≡ none_of blocks = ap (λ free. record { blocks = blocks; free = free }) (none_below blocks (λ b. not (is_reserved size b) && false) (λ b. and_false (not (is_reserved size b)))) in
+    ap (λ m. free_in size blocks (map_text size m)) (sym none) ∙ map_again size blocks (λ _. false) some ∙ none
+  where
+    and_false : (t : Bool) → (t && false) ≡ false
+    and_false true = refl
+    and_false false = refl
 
 map_read : (size unknown : ℕ) (streams : List (Option (List ℕ))) → unknown < 2 ^ 32 → IsPackable size streams
     → bytes_of_blocks size (packed size unknown streams) (active_map_blocks (packed_super size unknown streams)) ≡ map_text size (none_of (packed_map_addr size streams + 1))
@@ -207,14 +202,14 @@ map_read size unknown streams fits p =
     let there : k < length (active_map_blocks s) = omega (arith, lt, length-map-range_with_len (map_block size 1) 0 n) in
     let place : get_or (active_map_blocks s) k 0 ≡ 1 + k * size = get_or-map-range_with_len (map_block size 1) 0 n k k 0 lt (omega arith) in
     read_map size (superblock_text s) text (packed_content size streams) s.blocks k p.block (omega (arith, place, inside k 0 there)))
-    ∙ run_is size text text [] 0 n (length-map_text size s.blocks) at
+    ∙ run_is size text text [] 0 n (length-map_text size (none_of s.blocks)) at
 
 packed_free : (size unknown : ℕ) (streams : List (Option (List ℕ))) → unknown < 2 ^ 32 → IsPackable size streams
     → free_blocks_in (packed size unknown streams) (packed_super size unknown streams) ≡ none_of (packed_map_addr size streams + 1)
 unfolding free_blocks_in
 packed_free size unknown streams fits p =
     let blocks = packed_map_addr size streams + 1 in
-    ap (free_in size blocks) (map_read size unknown streams fits p) ∙ map_again size blocks (omega (arith, (sized size p.block).least))
+    ap (free_in size blocks) (map_read size unknown streams fits p) ∙ none_again size blocks (omega (arith, (sized size p.block).least))
 
 -- ---- the law
 

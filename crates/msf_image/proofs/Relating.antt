@@ -33,8 +33,8 @@ unfolding with_free
 judged_free used image none = ap (λ found. unless_free found image) (none_found (is_free image.free) used none)
 
 -- a directory of so few bytes has few streams
-few_spelled : (file : List ℕ) (limit : ℕ) (image : Image) (streams : List (Option (List ℕ))) → Reads file limit image streams → IsDirectory image.head (image.head.map_addr ∷ directory_blocks file image.head) image.directory
-few_spelled file limit image streams r =
+pub directory_read : (file : List ℕ) (limit : ℕ) (image : Image) (streams : List (Option (List ℕ))) → Reads file limit image streams → IsDirectory image.head (image.head.map_addr ∷ directory_blocks file image.head) image.directory
+directory_read file limit image streams r =
     let s = image.head in
     let text = directory_in file s in
     let skipped = r.spelled.skipped in
@@ -53,7 +53,7 @@ judged_from file limit image streams r =
     let s = image.head in
     let listed = s.map_addr ∷ directory_blocks file s in
     let front = usable_front s [] listed (flat_map blocks_in image.directory) r.usable in
-    let directory = few_spelled file limit image streams r in
+    let directory = directory_read file limit image streams r in
     at_free file file file file limit s listed image.directory image.free refl refl refl (superblock_from file limit s r.head r.text r.limited r.inside)
     (listed_from file (directory_blocks file s) s refl (none_from_usable s [] listed front))
     (streams_from_text file (directory_blocks file s) (directory_in file s) s s.map_addr image.directory refl (reading_again s listed (directory_in file s) image.directory r.head.blocks_fit directory r.spelled))
