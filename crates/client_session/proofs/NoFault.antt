@@ -1,48 +1,15 @@
 -- Replies of a desk that no file lies beneath: none is a fault of the disk.
-use Rattle.std.proofs.Common.{◌≡◌, ◌≢◌, ◌⊎◌, ℕ, IsTrue, List, Option, None, Some, Result, Ok, Err, refl, sym, ap, subst, ◌∙◌, inl, inr, ⊎_elim, arith}
+use Rattle.std.proofs.Common.{◌≡◌, ◌≢◌, ◌⊎◌, ℕ, IsTrue, List, Result, Ok, Err, refl, sym, ap, ◌∙◌, inl, inr, ⊎_elim, arith}
+use Rattle.leaf_grammar.specs.declared.grammar.Space.TheVariants.{Types, Items}
 use Rattle.leaf_grammar.specs.declared.grammar.Space.{Space}
 use Rattle.leaf_grammar.specs.declared.grammar.Space.TheVariants.{Types, Items}
-use Rattle.leaf_grammar.specs.declared.grammar.Leaf.{Leaf}
-use Rattle.leaf_grammar.specs.declared.grammar.Malformed as malformed
-use Rattle.leaf_grammar.specs.Leaf.{leaf_of}
-use Rattle.index_fields.specs.Fields.{missing}
-use Rattle.record_table.specs.declared.fault.AddFault.{AddFault}
-use Rattle.record_table.specs.declared.fault.AddFault.TheVariants as add_fault
 use Rattle.record_table.specs.Table as records
 use Rattle.srv_edge.specs.declared.failed.Refusal.{Refusal}
 use Rattle.srv_edge.specs.declared.failed.Refusal.TheVariants.{Malformed, NotGiven, Full, Underway, DiskFault, OutOfMemory}
 use Rattle.request_frames.specs.Requests.{Asked, add_item, add_type}
 use Rattle.request_frames.specs.Talk.{IsDiskFault}
-use Rattle.client_session.specs.Tables.{Tables, Answers, after, answer_of_add, answer_to_bytes, answer_to_leaf, answer_to_record, grows, index_reply, item_count, record_grows, reply_to, table_after, type_count}
-
--- an answer that is no fault of the disk
-abbrev pub IsNoFault : Result ℕ Refusal → Type 0
-IsNoFault (Ok n) = Unit {0}
-IsNoFault (Err (Malformed at what)) = Unit {0}
-IsNoFault (Err (NotGiven space index)) = Unit {0}
-IsNoFault (Err (Full which needed)) = Unit {0}
-IsNoFault (Err (Underway number)) = Unit {0}
-IsNoFault (Err (DiskFault number)) = ⊥
-IsNoFault (Err OutOfMemory) = Unit {0}
-
-no_fault_add : (r : Result ℕ AddFault) (most : ℕ) → IsNoFault (answer_of_add r most)
-no_fault_add (Ok index) most = tt
-no_fault_add (Err add_fault.Records) most = tt
-no_fault_add (Err (add_fault.Bytes needed)) most = tt
-no_fault_add (Err add_fault.OutOfMemory) most = tt
-
-no_fault_leaf : (field : Option (Space × ℕ)) (r : Result ℕ Refusal) → IsNoFault r → IsNoFault (answer_to_leaf field r)
-no_fault_leaf (Some field) r h = tt
-no_fault_leaf None r h = h
-
-no_fault_bytes : (leaf : Result Leaf malformed.Malformed) (r : Result ℕ Refusal) → IsNoFault r → IsNoFault (answer_to_bytes leaf r)
-no_fault_bytes (Ok leaf) r h = h
-no_fault_bytes (Err wrong) r h = tt
-
-pub no_fault_record : (space : Space) (table : records.Table) (types items : ℕ) (r : List ℕ) → IsNoFault (answer_to_record space table types items r)
-no_fault_record space table types items r =
-    no_fault_bytes (leaf_of space r) (answer_to_leaf (missing space r types items) (answer_of_add (records.answer_to_add table r) table.max_records))
-    (no_fault_leaf (missing space r types items) (answer_of_add (records.answer_to_add table r) table.max_records) (no_fault_add (records.answer_to_add table r) table.max_records))
+use Rattle.table_model.proofs.NoFault.{IsNoFault}
+use Rattle.client_session.specs.Tables.{Tables, Answers, after, answer_to_record, grows, index_reply, item_count, record_grows, reply_to, table_after, type_count}
 
 -- the kind of a reply with an index
 pub index_kind : (kind : ℕ) (r : Result ℕ Refusal) → ((index_reply kind r).kind ≡ kind) ⊎ ((index_reply kind r).kind ≡ 255)
@@ -111,8 +78,3 @@ adds_item x types items r result new some few answer left no_memory kept =
     (ap (λ n. index_reply 131 (answer_to_record Items x.items n (item_count x) r)) some ∙ ap (λ n. index_reply 131 (answer_to_record Items x.items types n r)) few)
     (ap (λ n. with_items x (table_after Items x.items n (item_count x) r)) some ∙ ap (λ n. with_items x (table_after Items x.items types n r)) few)
     (ap (λ n. record_grows Items x.items n (item_count x) r) some ∙ ap (λ n. record_grows Items x.items types n r) few) refl
-
-pub record_no_fault : (space : Space) (table : records.Table) (types items : ℕ) (r : List ℕ) (result : Result ℕ Refusal)
-    → (result ≡ answer_to_record space table types items r) ⊎ (result ≡ Err OutOfMemory) → IsNoFault result
-record_no_fault space table types items r result =
-    ⊎_elim (λ e. subst IsNoFault (sym e) (no_fault_record space table types items r)) (λ e. subst IsNoFault (sym e) tt)

@@ -7,11 +7,11 @@ use Rattle.srv_edge.specs.declared.failed.Refusal.TheVariants.{OutOfMemory}
 use Rattle.srv_edge.specs.Frames.{Frame, half_bytes, word_bytes}
 use Rattle.request_frames.specs.Refusals.{refusal_frame}
 use Rattle.request_frames.specs.Requests.{Asked, hello, add_type, add_item, add_name, get_type, get_item, get_name, counts, bye}
-use Rattle.core_model.specs.declared.call.Call.TheVariants as call
-use Rattle.core_model.specs.declared.call.Outcome.{Outcome}
-use Rattle.core_model.specs.declared.call.Outcome.TheVariants.{Index, Bytes, Counts}
-use Rattle.core_model.specs.Calls.{answer, bytes_answer, index_answer, tables_after}
-pub use Rattle.core_model.specs.Tables.{Tables, answer_of_add, answer_of_name, answer_to_bytes, answer_to_leaf, answer_to_name, answer_to_record, comes_to_table, item_count, record_grows, space_number, table_after, type_count}
+use Rattle.table_model.specs.declared.call.Call.TheVariants as call
+use Rattle.table_model.specs.declared.call.Outcome.{Outcome}
+use Rattle.table_model.specs.declared.call.Outcome.TheVariants.{Index, Bytes, Counts}
+use Rattle.table_model.specs.Calls.{answer, bytes_answer, index_answer, tables_after}
+pub use Rattle.table_model.specs.Tables.{Tables, answer_of_add, answer_of_name, answer_to_bytes, answer_to_leaf, answer_to_name, answer_to_record, comes_to_table, item_count, record_grows, space_number, table_after, type_count}
 
 -- the frame of a call's answer, of this kind where it is no refusal
 abbrev pub answer_frame : ℕ → Result Outcome Refusal → Frame

@@ -11,7 +11,8 @@ use Rattle.call_journal.specs.declared.deed.Deed.{Deed}
 use Rattle.call_journal.specs.declared.deed.Deed.TheVariants.{Added, Asked, Counted, NotGiven, Full, Began, Ended, Underway}
 use Rattle.call_journal.specs.Words.{deed_of}
 use Rattle.core_model.specs.History.{IsLegal, IsStart, OpenCommit, Standing, after_deed, after_entries, after_entry, opening, standing}
-use Rattle.core_model.specs.Cuts.{AcknowledgesNoOther, Cut, IsAllowed, cut_at}
+use Rattle.core_model.specs.Cuts.{AcknowledgesNoOther, IsAllowed, cut_at}
+use Rattle.table_model.specs.Cut.{Cut}
 use Rattle.core_model.specs.Law.{IsAcknowledged}
 use Rattle.core_model.proofs.Allowed.{IsNoOther}
 use Rattle.core_model.proofs.Growing.{legal_before, standing_more}

@@ -7,15 +7,15 @@ use Rattle.names_table.specs.Names.{bytes_of}
 use Rattle.call_journal.specs.declared.deed.TableKind.{TableKind}
 use Rattle.call_journal.specs.declared.deed.TableKind.TheVariants.{Types, Items, Names}
 use Rattle.core_model.specs.declared.passed.Passed.{Passed}
-use Rattle.core_model.specs.Tables.{Tables, item_count, type_count}
+use Rattle.table_model.specs.Tables.{Tables, item_count, type_count}
 use Rattle.core_model.specs.Cuts.{StartsWith}
 use Rattle.core_model.specs.History.{with_added}
 use Rattle.core_model.specs.Replay.{AreBeginnings, Lists, first_or_next, lists_of}
 use Rattle.core_model.specs.Steps.{behind_add, count_with, place_fits, place_of_index, place_of_offset}
-use Rattle.core_model.proofs.Counting.{place_of-within, some-bytes}
+use Rattle.table_model.proofs.Counting.{place_of-within, some-bytes}
 use Rattle.core_model.proofs.Placing.{IsNameAt, Placed, begun_before, equal, fits_placed, index_at-place, index_of-place, name_at_offset, offset_of-place, place_for, place_of_index-at, place_of_offset-at, placed, placed_count, placed_fits, same_index_test, same_offset_test, take-begun, with_at}
-use Rattle.core_model.proofs.Searching.{found_there}
-use Rattle.core_model.proofs.Strings as string_lemmas
+use Rattle.table_model.proofs.Searching.{found_there}
+use Rattle.table_model.proofs.Strings as string_lemmas
 
 -- the code has counted these lists
 pub record Counts (p : Passed) (lists : Lists) : Type 0 where

@@ -9,9 +9,10 @@ use Rattle.call_journal.specs.Words.{deed_of}
 use Rattle.call_journal.proofs.Decoding.{is_deed}
 use Rattle.record_table.specs.Table as records
 use Rattle.names_table.specs.Names as strings
-use Rattle.core_model.specs.Tables.{Tables}
+use Rattle.table_model.specs.Tables.{Tables}
 use Rattle.core_model.specs.History.{IsLegal, IsStart, age_of, opened_tables, limited_table}
-use Rattle.core_model.specs.Cuts.{BeganAt, Cut, IsAllowed, cut_at, opened}
+use Rattle.core_model.specs.Cuts.{BeganAt, IsAllowed, cut_at, opened}
+use Rattle.table_model.specs.Cut.{Cut}
 use Rattle.core_model.specs.World.{basis_of}
 use Rattle.core_model.proofs.Answered.{IsWithin, names_of, within_opened}
 use Rattle.core_model.proofs.Growing.{legal_before}

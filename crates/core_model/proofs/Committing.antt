@@ -5,8 +5,8 @@ use Rattle.std.proofs.lemmas.Bool.{and_from, and_parts, eq-eqb, lt-ltb, ne_eqb}
 use Rattle.std.proofs.lemmas.Option.{same_Some}
 use Rattle.turnstile.specs.declared.history.Entry.{Entry}
 use Rattle.call_journal.specs.declared.deed.Deed.TheVariants.{Underway}
-use Rattle.core_model.specs.Calls.{answer, is_call}
-use Rattle.core_model.specs.Cuts.{Cut}
+use Rattle.table_model.specs.Calls.{answer, is_call}
+use Rattle.table_model.specs.Cut.{Cut}
 use Rattle.core_model.specs.Entries.{entry_of, entry_of_call}
 use Rattle.core_model.specs.Events.{Event, asks_commit, begins, calls, calls_device, crashes, dies, ends, reopens}
 use Rattle.core_model.specs.Files.{Commit, DeviceCall, File, MayLeave, Phase, Progress, Which, done, doubt, failed, first_phase, progress, resolved, resolving, resolving_sync, settled, switching, switching_sync, sync, write, write_super, writing}

@@ -11,17 +11,18 @@ use Rattle.call_journal.specs.declared.deed.TableKind.TheVariants.{Types, Items,
 use Rattle.call_journal.specs.declared.deed.Deed.{Deed}
 use Rattle.call_journal.specs.declared.deed.Deed.TheVariants.{Added, Asked, Counted, NotGiven, Full, Began, Ended, Underway}
 use Rattle.call_journal.specs.Words.{deed_of}
-use Rattle.core_model.specs.Tables.{Tables}
+use Rattle.table_model.specs.Tables.{Tables}
 use Rattle.core_model.specs.History.{IsLegal, IsStart, Standing, after, after_deed, after_entries, after_entry, age_of, standing, with_added}
-use Rattle.core_model.specs.Cuts.{BeganAt, Cut, Extends, IsAllowed, StartsWith, cut_at}
+use Rattle.core_model.specs.Cuts.{BeganAt, Extends, IsAllowed, StartsWith, cut_at}
+use Rattle.table_model.specs.Cut.{Cut}
 use Rattle.core_model.specs.Law.{IsAcknowledged}
 use Rattle.core_model.proofs.Acknowledging.{acknowledged_newest, are_two, number_begun}
 use Rattle.core_model.proofs.Answered.{added_items, added_names, added_types}
 use Rattle.core_model.proofs.Growing.{legal_before, standing_on}
-use Rattle.core_model.proofs.Records as record_lemmas
+use Rattle.table_model.proofs.Records as record_lemmas
 use Rattle.core_model.proofs.Replying.{fits_there}
 use Rattle.core_model.proofs.Sound.{rising}
-use Rattle.core_model.proofs.Strings as string_lemmas
+use Rattle.table_model.proofs.Strings as string_lemmas
 
 pub starts_self : (xs : List (List ℕ)) → StartsWith xs xs
 starts_self xs = ([], sym (append-nil xs))

@@ -29,17 +29,17 @@ use Rattle.call_journal.specs.declared.deed.Limit.TheVariants as limit
 use Rattle.call_journal.specs.declared.deed.Deed.{Deed}
 use Rattle.call_journal.specs.declared.deed.Deed.TheVariants.{Added, Asked, Counted, NotGiven, Full, Began, Ended, Underway}
 use Rattle.call_journal.specs.Words.{IsDeed}
-use Rattle.core_model.specs.declared.call.Call.{Call}
-use Rattle.core_model.specs.declared.call.Call.TheVariants.{AddType, AddItem, AddName, GetType, GetItem, GetName, Counts}
-use Rattle.core_model.specs.declared.call.Outcome.{Outcome}
-use Rattle.core_model.specs.Tables.{Tables, answer_of_add, answer_of_name, answer_to_bytes, answer_to_leaf, answer_to_name, answer_to_record, item_count, space_number, type_count}
-use Rattle.core_model.specs.Calls.{answer, are_bytes, has_no_nul, index_answer, is_call}
-use Rattle.core_model.specs.History.{DeedFits, IsAnswered, IsRefusedFull, IsStart, NamesNothing, PassesLimit, Standing, WithinLimits, after_deed}
+use Rattle.table_model.specs.declared.call.Call.{Call}
+use Rattle.table_model.specs.declared.call.Call.TheVariants.{AddType, AddItem, AddName, GetType, GetItem, GetName, Counts}
+use Rattle.table_model.specs.declared.call.Outcome.{Outcome}
+use Rattle.table_model.specs.Tables.{Tables, WithinLimits, answer_of_add, answer_of_name, answer_to_bytes, answer_to_leaf, answer_to_name, answer_to_record, item_count, space_number, type_count}
+use Rattle.table_model.specs.Calls.{answer, are_bytes, has_no_nul, index_answer, is_call}
+use Rattle.core_model.specs.History.{DeedFits, IsAnswered, IsRefusedFull, IsStart, NamesNothing, PassesLimit, Standing, after_deed}
 use Rattle.core_model.specs.Entries.{entry_of, entry_of_add, entry_of_call, entry_of_read, table_of_space}
 use Rattle.core_model.proofs.Missing.{IsMissing, is_missing}
-use Rattle.core_model.proofs.Records as record_lemmas
+use Rattle.table_model.proofs.Records as record_lemmas
 use Rattle.core_model.proofs.Sound.{IsOf, IsSound, is_of}
-use Rattle.core_model.proofs.Strings as string_lemmas
+use Rattle.table_model.proofs.Strings as string_lemmas
 
 -- a deed that begins and ends no commit
 abbrev pub IsQuiet : Deed → Type 0

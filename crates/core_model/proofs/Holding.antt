@@ -10,7 +10,8 @@ use Rattle.turnstile.proofs.Beginnings.{begins_more, begins_self, other_call, ow
 use Rattle.call_journal.specs.declared.deed.Deed.TheVariants.{Ended}
 use Rattle.call_journal.specs.Words.{deed_of}
 use Rattle.core_model.specs.History.{Fits, IsLegal, Standing, after_entry, standing}
-use Rattle.core_model.specs.Cuts.{BeganAt, Cut, IsAllowed}
+use Rattle.core_model.specs.Cuts.{BeganAt, IsAllowed}
+use Rattle.table_model.specs.Cut.{Cut}
 use Rattle.core_model.specs.Files.{Commit, DeviceCall, File, MayLeave, Phase, Progress, Which, done, doubt, failed, left, older, pending, progress, resolved, resolving, resolving_sync, settled, sure, switching, switching_sync, sync, write, write_super, writing}
 use Rattle.core_model.specs.Passes.{Knowledge, with_view}
 use Rattle.core_model.proofs.Allowed.{allowed_more, began_more}

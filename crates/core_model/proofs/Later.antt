@@ -4,8 +4,8 @@ use Rattle.std.specs.Prelude.{◌&&◌, is_none}
 use Rattle.turnstile.specs.declared.history.Entry.{Entry}
 use Rattle.turnstile.specs.Histories.{Begins}
 use Rattle.turnstile.proofs.Beginnings.{begins_more, begins_self}
-use Rattle.core_model.specs.Calls.{answer, is_call}
-use Rattle.core_model.specs.Cuts.{Cut}
+use Rattle.table_model.specs.Calls.{answer, is_call}
+use Rattle.table_model.specs.Cut.{Cut}
 use Rattle.core_model.specs.Entries.{entry_of_call}
 use Rattle.core_model.specs.Events.{Event, asks_commit, begins, calls, calls_device, crashes, dies, ends, reopens}
 use Rattle.core_model.specs.Files.{Commit, DeviceCall, MayLeave, Phase, Progress, done, failed, progress, resolving, resolving_sync, switching, switching_sync, sync, writing}

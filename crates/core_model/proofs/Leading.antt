@@ -18,7 +18,7 @@ use Rattle.call_journal.specs.declared.deed.Deed.TheVariants.{Added, Asked, Coun
 use Rattle.call_journal.specs.Words.{deed_of}
 use Rattle.core_model.specs.declared.passed.CommitOpen.{CommitOpen}
 use Rattle.core_model.specs.declared.passed.Passed.{Passed}
-use Rattle.core_model.specs.Tables.{Tables}
+use Rattle.table_model.specs.Tables.{Tables}
 use Rattle.core_model.specs.Cuts.{Extends}
 use Rattle.core_model.specs.History.{NamesNothing, OpenCommit, Standing, after, after_deed, after_entry, standing}
 use Rattle.core_model.specs.Replay.{DeedShows, HasLimit, AreBeginnings, IsShown, LeadsInto, LeadsTo, Lists, NoneBegan, counts_of, lists_of, words_of}

@@ -1,10 +1,6 @@
-mod Counting
 mod Places
-mod Searching
 pub mod Growing
 mod Missing
-pub mod Records
-pub mod Strings
 pub mod Answered
 pub mod Sound
 pub mod Filing

@@ -17,7 +17,7 @@ use Rattle.leaf_grammar.specs.Kinds.{parts_of, rows_of}
 use Rattle.leaf_grammar.specs.Leaf.{size_of, number_at, cursor, parts_end, past, row_at, row_end, kind_of, says}
 use Rattle.leaf_grammar.specs.Found.{onwards, found_at, found_in}
 use Rattle.index_fields.specs.Fields.{Field, content_fields, count_in, field_at, fields_in, fields_of, missing, missing_among, parts_fields, row_fields, rows_fields, run_from, tail_fields}
-use Rattle.core_model.specs.Calls.{are_bytes}
+use Rattle.table_model.specs.Calls.{are_bytes}
 
 -- each byte is below 256, and so is what stands past the end
 byte_at : (r : List ℕ) → are_bytes r ≡ true → (i : ℕ) → get_or r i 0 < 256

@@ -5,8 +5,8 @@ use Rattle.std.specs.Option.{option_to_list}
 use Rattle.std.proofs.lemmas.Bool.{and_from, eq-eqb, eqb-true, ne_eqb}
 use Rattle.std.proofs.lemmas.List.{append-nil}
 use Rattle.turnstile.specs.declared.history.Entry.{Entry}
-use Rattle.core_model.specs.declared.call.Call.{Call}
-use Rattle.core_model.specs.Calls.{answer, is_call}
+use Rattle.table_model.specs.declared.call.Call.{Call}
+use Rattle.table_model.specs.Calls.{answer, is_call}
 use Rattle.core_model.specs.Law.{entries_of}
 use Rattle.core_model.specs.Entries.{entry_of_call}
 use Rattle.core_model.specs.Events.{Event, asks_commit, begins, calls, calls_device, crashes, dies, ends, reopens, whose}

@@ -1,8 +1,6 @@
 -- The places of names, by their offsets.
 use Rattle.std.proofs.Common.{◌≡◌, ◌≢◌, ◌<◌, ◌+◌, ℕ, zero, suc, Bool, true, false, cond, eqb, eq-eqb, ne_eqb, List, [], ◌∷◌, length, get_or, drop, Option, Some, None, refl, sym, ap, ◌∙◌, arith}
-use Rattle.std.specs.List.{slice_get}
 use Rattle.std.specs.Option.{option_map}
-use Rattle.std.proofs.lemmas.Option.{slice_get_read}
 use Rattle.core_model.specs.Steps.{place_of_offset}
 
 -- a name and those behind it
@@ -12,10 +10,6 @@ drop-here (y ∷ names) zero x within at = ap (λ z. z ∷ names) (sym at)
 drop-here (y ∷ names) (suc i) x within at =
     let next : suc i + 1 ≡ suc (i + 1) = omega arith in
     rw next (drop-here names i x (omega arith) at)
-
--- the name that an index reads
-pub name-here : (names : List (List ℕ)) (i : ℕ) (x : List ℕ) → i < length names → x ≡ get_or names i x → slice_get names i ≡ Some x
-name-here names i x within at = slice_get_read names (length names) i x refl within at
 
 -- no name begins before the first
 pub past : (start : ℕ) (names : List (List ℕ)) (offset : ℕ) → offset < start → place_of_offset start names offset ≡ None

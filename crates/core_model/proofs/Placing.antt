@@ -11,8 +11,8 @@ use Rattle.record_table.specs.Table.{index_at, place_of}
 use Rattle.names_table.specs.Names.{bytes_of, offset_from}
 use Rattle.core_model.specs.Cuts.{StartsWith}
 use Rattle.core_model.specs.Steps.{count_with, is_first, is_place, place_fits, place_of_index, place_of_offset}
-use Rattle.core_model.proofs.Counting.{place_of-within, some-bytes}
-use Rattle.core_model.proofs.Searching.{found_behind, found_first, found_there, place_behind, place_on}
+use Rattle.table_model.proofs.Counting.{place_of-within, some-bytes}
+use Rattle.table_model.proofs.Searching.{found_behind, found_first, found_there, place_behind, place_on}
 
 -- a test that holds, of two numbers
 pub equal : (a b : ℕ) → eqb a b ≡ true → a ≡ b

@@ -12,14 +12,14 @@ use Rattle.call_journal.specs.declared.deed.TableKind.TheVariants.{Types, Items,
 use Rattle.call_journal.specs.declared.deed.Deed.{Deed}
 use Rattle.call_journal.specs.declared.deed.Deed.TheVariants.{Added, Asked, Counted, NotGiven, Full, Began, Ended, Underway}
 use Rattle.call_journal.specs.Words.{deed_of}
-use Rattle.core_model.specs.Tables.{Tables, item_count, type_count}
-use Rattle.core_model.specs.Calls.{tables_after}
+use Rattle.table_model.specs.Tables.{Tables, item_count, type_count}
+use Rattle.table_model.specs.Calls.{tables_after}
 use Rattle.core_model.specs.History.{DeedFits, IsAnswered, IsLegal, Standing, after, after_deed, after_entries, after_entry, standing, with_added}
 use Rattle.core_model.specs.Law.{add_to}
 use Rattle.core_model.proofs.Answered.{added_items, added_names, added_types, is_taken, name_is_taken, table_of_taken}
 use Rattle.core_model.proofs.Growing.{legal_before, standing_more, standing_on}
-use Rattle.core_model.proofs.Records as record_lemmas
-use Rattle.core_model.proofs.Strings as string_lemmas
+use Rattle.table_model.proofs.Records as record_lemmas
+use Rattle.table_model.proofs.Strings as string_lemmas
 
 -- what an entry of a legal history says where it stands
 pub fits_there : (b : Basis) (before rest : List Entry) (e : Entry) (deed : Option Deed) → IsLegal b (before ++ e ∷ rest) → deed_of e.word ≡ deed → DeedFits (standing b before) (caller e) deed e.brought

@@ -9,10 +9,11 @@ use Rattle.turnstile.proofs.Beginnings.{begins_self}
 use Rattle.call_journal.specs.declared.deed.Deed.{Deed}
 use Rattle.call_journal.specs.declared.deed.Deed.TheVariants.{Began, Ended, Underway}
 use Rattle.call_journal.specs.Words.{IsDeed, deed_of}
-use Rattle.core_model.specs.declared.call.Call.{Call}
-use Rattle.core_model.specs.Calls.{answer, is_call}
+use Rattle.table_model.specs.declared.call.Call.{Call}
+use Rattle.table_model.specs.Calls.{answer, is_call}
 use Rattle.core_model.specs.History.{DeedFits, IsStart, Standing, after_deed, after_entry, standing}
-use Rattle.core_model.specs.Cuts.{Cut, IsAllowed, opened}
+use Rattle.core_model.specs.Cuts.{IsAllowed, opened}
+use Rattle.table_model.specs.Cut.{Cut}
 use Rattle.core_model.specs.Entries.{entry_of, entry_of_call}
 use Rattle.core_model.specs.Events.{Event, asks_commit, begins, calls, calls_device, crashes, dies, ends, reopens}
 use Rattle.core_model.specs.Files.{Commit, DeviceCall, File, MayLeave, Phase, Progress, done, doubt, failed, first_phase, older, pending, progress, resolving, resolving_sync, settled, switching, switching_sync, writing}

@@ -14,12 +14,12 @@ use Rattle.call_journal.specs.declared.deed.Limit.TheVariants as limit
 use Rattle.call_journal.specs.declared.deed.Deed.{Deed}
 use Rattle.call_journal.specs.declared.deed.Deed.TheVariants.{Added, Asked, Counted, NotGiven, Full, Began, Ended, Underway}
 use Rattle.call_journal.specs.Words.{deed_of}
-use Rattle.core_model.specs.Tables.{Tables, item_count, type_count}
+use Rattle.table_model.specs.Tables.{Tables, item_count, type_count}
 use Rattle.core_model.specs.History.{DeedFits, IsAnswered, IsRefusedFull, IsLegal, after, standing}
 use Rattle.core_model.specs.Replay.{DeedShows, HasLimit, LeadsTo, counts_of, first_or_next, lists_of, words_of}
 use Rattle.core_model.proofs.Answered.{is_taken, name_is_taken}
-use Rattle.core_model.proofs.Records as record_lemmas
-use Rattle.core_model.proofs.Strings as string_lemmas
+use Rattle.table_model.proofs.Records as record_lemmas
+use Rattle.table_model.proofs.Strings as string_lemmas
 
 -- an answer is the index or offset of the first equal one, or the next
 record_given : (t : records.Table) (r : List ℕ) (at : ℕ) → records.answer_to_add t r ≡ Ok at → at ≡ unwrap_or (records.index_of t r) (records.index_at (length t.records))

@@ -5,7 +5,7 @@ use Rattle.std.proofs.lemmas.List.{append_assoc}
 use Rattle.turnstile.specs.declared.history.Basis.{Basis}
 use Rattle.turnstile.specs.declared.history.Entry.{Entry}
 use Rattle.call_journal.specs.declared.deed.Deed.TheVariants.{Began, Ended}
-use Rattle.core_model.specs.Cuts.{Cut}
+use Rattle.table_model.specs.Cut.{Cut}
 use Rattle.core_model.specs.Entries.{entry_of}
 use Rattle.core_model.specs.Events.{Event, calls_device, ends}
 use Rattle.core_model.specs.Files.{File, Phase, doubt, first_phase, settled, sync, write_super, writing}

@@ -9,7 +9,7 @@ use Rattle.call_journal.specs.declared.deed.Deed.{Deed}
 use Rattle.call_journal.specs.declared.deed.Deed.TheVariants.{Added, Asked, Counted, NotGiven, Full, Began, Ended, Underway}
 use Rattle.call_journal.specs.Words.{IsDeed, deed_of, word_of}
 use Rattle.call_journal.proofs.Decoding.{caller_of_word, deed_of_word, is_deed, small_word}
-use Rattle.core_model.specs.Calls.{are_bytes}
+use Rattle.table_model.specs.Calls.{are_bytes}
 use Rattle.core_model.specs.History.{DeedFits, Fits, IsLegal, IsStart, OpenCommit, Standing, after_deed, after_entries, after_entry, opening, standing}
 use Rattle.core_model.proofs.Answered.{IsWithin, within_added, within_opened}
 use Rattle.core_model.proofs.Growing.{standing_on}

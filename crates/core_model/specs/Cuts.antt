@@ -4,13 +4,9 @@ use Rattle.turnstile.specs.declared.history.Entry.{Entry}
 use Rattle.turnstile.specs.declared.history.Basis.{Basis}
 use Rattle.call_journal.specs.declared.deed.Deed.TheVariants.{Began, Ended}
 use Rattle.call_journal.specs.Words.{deed_of}
-use Rattle.core_model.specs.Tables.{Tables}
+use Rattle.table_model.specs.Cut.{Cut}
+use Rattle.table_model.specs.Tables.{Tables}
 use Rattle.core_model.specs.History.{after, age_of, opened_tables}
-
--- what a commit writes: its number, and the tables as they stand where it begins
-pub record Cut : Type 0 where
-  pub number : ℕ
-  pub tables : Tables
 
 -- the cut that was opened
 abbrev pub opened : Basis → Cut

@@ -10,10 +10,10 @@ use Rattle.call_journal.specs.declared.deed.Limit.TheVariants as limit
 use Rattle.call_journal.specs.declared.deed.Deed.{Deed}
 use Rattle.call_journal.specs.declared.deed.Deed.TheVariants.{Added, Asked, Counted, NotGiven, Full}
 use Rattle.call_journal.specs.Words.{word_of}
-use Rattle.core_model.specs.declared.call.Call.{Call}
-use Rattle.core_model.specs.declared.call.Call.TheVariants.{AddType, AddItem, AddName, GetType, GetItem, GetName, Counts}
-use Rattle.core_model.specs.declared.call.Outcome.{Outcome}
-use Rattle.core_model.specs.declared.call.Outcome.TheVariants as outcome
+use Rattle.table_model.specs.declared.call.Call.{Call}
+use Rattle.table_model.specs.declared.call.Call.TheVariants.{AddType, AddItem, AddName, GetType, GetItem, GetName, Counts}
+use Rattle.table_model.specs.declared.call.Outcome.{Outcome}
+use Rattle.table_model.specs.declared.call.Outcome.TheVariants as outcome
 
 -- the entry of a caller's deed, with the bytes that it brought
 abbrev pub entry_of : ℕ → Deed → List ℕ → Entry

@@ -1,6 +1,6 @@
 -- The events of the world.
 use Rattle.std.specs.Prelude.{ℕ, Bool, List, Option, Some, None}
-use Rattle.core_model.specs.declared.call.Call.{Call}
+use Rattle.table_model.specs.declared.call.Call.{Call}
 use Rattle.core_model.specs.Files.{DeviceCall, Which}
 
 -- What happens: a call of a pass; a commit that a pass asks for, or begins; a device call of the commit under way,

@@ -1,6 +1,6 @@
 -- The file as crashes may leave it, and the phases of a commit onto it.
 use Rattle.std.specs.Prelude.{◌≡◌, ℕ, Bool, true, false, Option, Some, None}
-use Rattle.core_model.specs.Cuts.{Cut}
+use Rattle.table_model.specs.Cut.{Cut}
 
 -- The file: settled on one cut, or in doubt between the cut that it was settled on and a pending one. A crash leaves
 -- one of these.

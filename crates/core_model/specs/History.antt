@@ -13,8 +13,8 @@ use Rattle.call_journal.specs.declared.deed.Limit.TheVariants as limit
 use Rattle.call_journal.specs.declared.deed.Deed.{Deed}
 use Rattle.call_journal.specs.declared.deed.Deed.TheVariants.{Added, Asked, Counted, NotGiven, Full, Began, Ended, Underway}
 use Rattle.call_journal.specs.Words.{deed_of}
-use Rattle.core_model.specs.Calls.{are_bytes}
-use Rattle.core_model.specs.Tables.{Tables, answer_to_record, answer_to_name, item_count, type_count}
+use Rattle.table_model.specs.Calls.{are_bytes}
+use Rattle.table_model.specs.Tables.{Tables, WithinLimits, answer_to_record, answer_to_name, item_count, type_count}
 
 -- The numbers of a basis: the number of the commit that was opened, the five limits and the version of
 -- the names. What else an opened file has stands behind them.
@@ -107,11 +107,6 @@ abbrev pub IsAnswered : Tables → TableKind → ℕ → List ℕ → Type 0
 IsAnswered x Types at r = answer_to_record leaf.Types x.types (type_count x) (item_count x) r ≡ Ok at
 IsAnswered x Items at r = answer_to_record leaf.Items x.items (type_count x) (item_count x) r ≡ Ok at
 IsAnswered x Names at name = strings.IsName name × (answer_to_name x.names name ≡ Ok at)
-
--- a table within its limits
-pub record WithinLimits (table : records.Table) : Type 0 where
-  pub few : length table.records ≤ table.max_records
-  pub short : records.bytes_in table ≤ table.max_bytes
 
 -- an index that names no record yet
 abbrev pub NamesNothing : Tables → TableKind → ℕ → Type 0

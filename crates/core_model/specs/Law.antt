@@ -7,10 +7,11 @@ use Rattle.call_journal.specs.declared.deed.Deed.TheVariants.{Added, Began, Ende
 use Rattle.call_journal.specs.declared.deed.TableKind.{TableKind}
 use Rattle.call_journal.specs.declared.deed.TableKind.TheVariants.{Types, Items, Names}
 use Rattle.call_journal.specs.Words.{deed_of}
-use Rattle.core_model.specs.declared.call.Call.{Call}
-use Rattle.core_model.specs.declared.call.Call.TheVariants.{AddType, AddItem, AddName}
-use Rattle.core_model.specs.Calls.{answer, is_call}
-use Rattle.core_model.specs.Cuts.{Cut, cut_at}
+use Rattle.table_model.specs.declared.call.Call.{Call}
+use Rattle.table_model.specs.declared.call.Call.TheVariants.{AddType, AddItem, AddName}
+use Rattle.table_model.specs.Calls.{answer, is_call}
+use Rattle.core_model.specs.Cuts.{cut_at}
+use Rattle.table_model.specs.Cut.{Cut}
 use Rattle.core_model.specs.Entries.{entry_of_call}
 use Rattle.core_model.specs.Events.{Event, begins, calls_device, ends, reopens}
 use Rattle.core_model.specs.Files.{Commit, DeviceCall, File, Phase, doubt, resolving, resolving_sync, settled, switching, switching_sync, sync, write, write_super, writing}

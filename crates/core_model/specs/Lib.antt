@@ -1,5 +1,3 @@
-pub mod Tables
-pub mod Calls
 pub mod History
 pub mod Cuts
 pub mod Entries
@@ -8,6 +6,5 @@ pub mod Files
 pub mod Events
 pub mod World
 pub mod Law
-pub mod Plain
 pub mod Replay
 pub mod Steps

@@ -13,9 +13,9 @@ use Rattle.call_journal.specs.declared.deed.Limit.TheVariants as limit
 use Rattle.call_journal.specs.declared.deed.Deed.{Deed}
 use Rattle.call_journal.specs.declared.deed.Deed.TheVariants.{Added, Full, Began}
 use Rattle.call_journal.specs.Words.{deed_of}
-use Rattle.core_model.specs.declared.call.Verdict.{Verdict}
-use Rattle.core_model.specs.declared.call.Verdict.TheVariants.{Legal, Illegal}
-use Rattle.core_model.specs.Tables.{Tables, item_count, type_count}
+use Rattle.core_model.specs.declared.verdict.Verdict.{Verdict}
+use Rattle.core_model.specs.declared.verdict.Verdict.TheVariants.{Legal, Illegal}
+use Rattle.table_model.specs.Tables.{Tables, item_count, type_count}
 use Rattle.core_model.specs.Cuts.{StartsWith}
 use Rattle.core_model.specs.History.{DeedFits, after, standing}
 

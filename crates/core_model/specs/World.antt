@@ -4,10 +4,11 @@ use Rattle.std.specs.Prelude.{◌+◌, ◌-◌, ◌^◌, ◌==◌, ◌&&◌, ℕ
 use Rattle.turnstile.specs.declared.history.Entry.{Entry}
 use Rattle.turnstile.specs.declared.history.Basis.{Basis}
 use Rattle.call_journal.specs.declared.deed.Deed.TheVariants.{Began, Ended, Underway}
-use Rattle.core_model.specs.declared.call.Call.{Call}
-use Rattle.core_model.specs.Tables.{Tables}
-use Rattle.core_model.specs.Calls.{answer, is_call}
-use Rattle.core_model.specs.Cuts.{Cut, cut_at, opened}
+use Rattle.table_model.specs.declared.call.Call.{Call}
+use Rattle.table_model.specs.Tables.{Tables}
+use Rattle.table_model.specs.Calls.{answer, is_call}
+use Rattle.core_model.specs.Cuts.{cut_at, opened}
+use Rattle.table_model.specs.Cut.{Cut}
 use Rattle.core_model.specs.Entries.{entry_of, entry_of_call}
 use Rattle.core_model.specs.Events.{Event, asks_commit, begins, calls, calls_device, crashes, dies, ends, reopens}
 use Rattle.core_model.specs.Files.{Commit, DeviceCall, File, Phase, Progress, done, failed, first_phase, left, progress, settled}

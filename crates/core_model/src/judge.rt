@@ -1,8 +1,8 @@
 ghost use Rattle.std.specs.Prelude.{◌≡◌, ◌<◌, ◌^◌, ◌↔◌, length};
 ghost use Rattle.core_model.specs.Replay.{IfIllegal, IsFirstWrong, LeadsTo};
 
-use crate::call::Verdict;
 use crate::passed::{Passed, behind, has_start, is_end};
+use crate::verdict::Verdict;
 use srv_edge::{RecordList, Text};
 
 /// Judges whether words are those of a history that leads from the first types, items and names, as many as

@@ -1,10 +1,10 @@
 ghost use Rattle.std.specs.Prelude.{◌≡◌, ◌<◌, ◌↔◌, ◌&&◌, length, IfSome, IsTrue, Some, None, is_none, if◌then◌else◌};
 ghost use Rattle.core_model.specs.Steps.{HasStart, behind, behind_add, behind_deed, count_with, holds_records, is_end, is_first, is_limit_of, is_next, is_open, is_open_number, names_nothing, place_fits, place_of_index, place_of_offset};
 
-use crate::search::{place_of, place_of_name};
 use call_journal::{Deed, Limit, TableKind, caller_of, deed_of};
 use record_table::FIRST_INDEX;
 use srv_edge::{RecordList, Text};
+use table_model::{place_of, place_of_name};
 
 /// A commit that has begun and has not ended.
 #[derive(Clone, Copy)]

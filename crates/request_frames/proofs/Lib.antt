@@ -1,3 +1,6 @@
+mod Counting
 pub mod Ends
 mod OneRequest
+mod OneTurn
+pub mod Serving
 pub mod Turns

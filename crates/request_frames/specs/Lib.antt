@@ -4,3 +4,4 @@ pub mod Replies
 pub mod Talk
 pub mod Session
 pub mod Next
+pub mod Serving

@@ -52,10 +52,3 @@ pub record IsSession {S : Type 0} (answers : S → Asked → Frame → S → Typ
   pub talk : IsTalk answers old frames replies new
   pub sends : Sends end sent (session_text replies tail)
   pub ends : EndsAt end tail (length read) limit
-
--- the end of a session whose whole input stops so, where nothing fails and the limit is not reached
-abbrev pub end_at : Tail → SessionEnd
-end_at at_end = Ended
-end_at cut_short = CutShort
-end_at (bad_length n) = BadLength
-end_at at_bye = Bye

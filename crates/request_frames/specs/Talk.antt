@@ -1,15 +1,35 @@
 -- What a desk answers to the frames of a session, one after another.
-use Rattle.std.specs.Prelude.{◌≡◌, ◌+◌, ◌⊎◌, List, [], ◌∷◌, length, slice_index}
-use Rattle.srv_edge.specs.Frames.{Frame, refused}
+use Rattle.std.specs.Prelude.{◌≡◌, ◌==◌, ◌&&◌, ◌+◌, ◌⊎◌, ℕ, Bool, IsTrue, List, [], ◌∷◌, length, slice_index, if◌then◌else◌}
+use Rattle.srv_edge.specs.Count.{HasCause}
+use Rattle.srv_edge.specs.Frames.{Frame, frame_bytes, refused}
 use Rattle.request_frames.specs.Requests.{Asked, IsAsked, IsBadBody, IsKind, request_frame}
 
 -- a reply has the kind of its request plus 128, or it is a refusal
 abbrev pub IsReplyTo : Frame → Frame → Type 0
 IsReplyTo request reply = (reply.kind ≡ request.kind + 128) ⊎ (reply.kind ≡ 255)
 
--- a refusal for a fault of the device
-abbrev pub IsDiskFault : Frame → Type 0
-IsDiskFault reply = (reply.kind ≡ 255) × (slice_index reply.body 0 ≡ 8)
+-- whether a reply is a refusal for a fault of the device
+abbrev pub is_disk_fault : Frame → Bool
+is_disk_fault reply = (reply.kind == 255) && (slice_index reply.body 0 == 8)
+
+-- how many of these replies are
+abbrev pub disk_faults : List Frame → ℕ
+disk_faults [] = 0
+disk_faults (reply ∷ replies) = (if is_disk_fault reply then 1 else 0) + disk_faults replies
+
+-- A desk's answer to a request, with what it does beside: the references are the same, and a refusal for a fault of the
+-- device has its cause.
+pub record AnswersWith {S : Type 0} (answers : S → Asked → Frame → S → Type 0) (faults : S → ℕ) (loans : S → List ℕ) (old : S) (a : Asked) (reply : Frame) (new : S) : Type 0 where
+  pub answered : answers old a reply new
+  pub same_loans : loans new ≡ loans old
+  pub cause : HasCause (IsTrue (is_disk_fault reply)) (faults old) (faults new)
+
+-- A whole reply to a request stands in a piece.
+pub record PutsReply {S : Type 0} (answers : S → Asked → Frame → S → Type 0) (old : S) (a : Asked) (out : List ℕ) (new : S) : Type 0 where
+  pub reply : Frame
+  pub spelled : out ≡ frame_bytes reply
+  pub answered : answers old a reply new
+  pub of_kind : IsReplyTo (request_frame a) reply
 
 module _ {S : Type 0} (answers : S → Asked → Frame → S → Type 0) where
   -- One frame is answered: by the desk, or, where it is no request, by what is wrong with it. Then the desk stays.

@@ -19,7 +19,8 @@ const LAST_CODE: u8 = 9;
 pub fn write_request(r: &Request, out: &mut Vec<u8>) -> Result<(), AllocError>
     requires asked { IsAsked (asked r.now) }
     requires fits { FitsFrame (asked r.now) }
-    ensures ok { OnOk result (out.new.items ≡ out.old.items ++ frame_bytes (request_frame (asked r.now))) }
+    ensures ok { OnOk result
+        (out.new.items ≡ out.old.items ++ frame_bytes (request_frame (asked r.now))) }
     ensures err { OnErr result (out.new.items ≡ out.old.items) }
 {
     match *r {
@@ -38,7 +39,8 @@ pub fn write_request(r: &Request, out: &mut Vec<u8>) -> Result<(), AllocError>
 // Appends a frame.
 fn append(kind: u8, body: &[u8], out: &mut Vec<u8>) -> Result<(), AllocError>
     requires { length body.now ≤ 65536 }
-    ensures ok { OnOk result (out.new.items ≡ out.old.items ++ frame_bytes (record { kind = kind; body = body.now })) }
+    ensures ok { OnOk result
+        (out.new.items ≡ out.old.items ++ frame_bytes (record { kind = kind; body = body.now })) }
     ensures err { OnErr result (out.new.items ≡ out.old.items) }
 {
     out.reserve(body.len() + 5)?;
@@ -75,7 +77,8 @@ pub fn read_reply<'a>(frame: &'a [u8]) -> Result<Reply<'a>, BadFrame>
 
 // A body that is the version of the protocol.
 fn read_hello<'a>(body: &[u8]) -> Result<Reply<'a>, BadFrame>
-    ensures reply { IfOk result (λ reply. reply_frame reply ≡ record { kind = 129; body = body.now }) }
+    ensures reply { IfOk result
+        (λ reply. reply_frame reply ≡ record { kind = 129; body = body.now }) }
     ensures answered { IfOk result (λ reply. IsReply reply) }
     ensures err { OnErr result (result ≡ Err BadFrame.Body) }
     ensures bad { OnErr result (half_bytes 1 ≢ body.now) }
@@ -92,7 +95,8 @@ fn read_hello<'a>(body: &[u8]) -> Result<Reply<'a>, BadFrame>
 
 // A body that is a name.
 fn read_name<'a>(body: &'a [u8]) -> Result<Reply<'a>, BadFrame>
-    ensures reply { IfOk result (λ reply. reply_frame reply ≡ record { kind = 135; body = body.now }) }
+    ensures reply { IfOk result
+        (λ reply. reply_frame reply ≡ record { kind = 135; body = body.now }) }
     ensures answered { IfOk result (λ reply. IsReply reply) }
     ensures err { OnErr result (result ≡ Err BadFrame.Body) }
     ensures bad { OnErr result (¬ All (λ b. b ≢ 0) body.now) }
@@ -105,10 +109,13 @@ fn read_name<'a>(body: &'a [u8]) -> Result<Reply<'a>, BadFrame>
 
 // A body that is three numbers.
 fn read_counts<'a>(body: &[u8]) -> Result<Reply<'a>, BadFrame>
-    ensures reply { IfOk result (λ reply. reply_frame reply ≡ record { kind = 137; body = body.now }) }
+    ensures reply { IfOk result
+        (λ reply. reply_frame reply ≡ record { kind = 137; body = body.now }) }
     ensures answered { IfOk result (λ reply. IsReply reply) }
     ensures err { OnErr result (result ≡ Err BadFrame.Body) }
-    ensures bad { OnErr result ((types items names : ℕ) → word_bytes types ++ word_bytes items ++ word_bytes names ≢ body.now) }
+    ensures bad { OnErr result
+        ((types items names : ℕ)
+        → word_bytes types ++ word_bytes items ++ word_bytes names ≢ body.now) }
 {
     if body.len() != 12 {
         return Err(BadFrame::Body);
@@ -119,10 +126,12 @@ fn read_counts<'a>(body: &[u8]) -> Result<Reply<'a>, BadFrame>
 
 // A body that is a code and two numbers.
 fn read_refusal<'a>(body: &[u8]) -> Result<Reply<'a>, BadFrame>
-    ensures reply { IfOk result (λ reply. reply_frame reply ≡ record { kind = 255; body = body.now }) }
+    ensures reply { IfOk result
+        (λ reply. reply_frame reply ≡ record { kind = 255; body = body.now }) }
     ensures answered { IfOk result (λ reply. IsReply reply) }
     ensures err { OnErr result (result ≡ Err BadFrame.Body) }
-    ensures bad { OnErr result ((code a b : ℕ) → 1 ≤ code → code ≤ 9 → (refused code a b).body ≢ body.now) }
+    ensures bad { OnErr result
+        ((code a b : ℕ) → 1 ≤ code → code ≤ 9 → (refused code a b).body ≢ body.now) }
 {
     if body.len() != 9 {
         return Err(BadFrame::Body);

@@ -1,8 +1,7 @@
-ghost use Rattle.std.specs.Prelude.{◌≡◌, ◌≤◌, ℕ, List, []};
-ghost use Rattle.srv_edge.specs.Count.{Rose};
-ghost use Rattle.srv_edge.specs.Frames.{Frame, frame_bytes};
-ghost use Rattle.request_frames.specs.Requests.{Asked, IsAsked, asked, request_frame};
-ghost use Rattle.request_frames.specs.Talk.{IsDiskFault, IsReplyTo};
+ghost use Rattle.std.specs.Prelude.{◌≡◌, ℕ, List, []};
+ghost use Rattle.srv_edge.specs.Frames.{Frame};
+ghost use Rattle.request_frames.specs.Requests.{Asked, IsAsked, asked};
+ghost use Rattle.request_frames.specs.Talk.{AnswersWith, PutsReply};
 
 use crate::request::Request;
 use srv_edge::Piece;
@@ -21,11 +20,11 @@ pub trait Desk {
     /// The names of the references that it holds. No call puts another in their place.
     ghost loans: { Self → List ℕ } = { λ _. [] };
 
-    /// Puts one whole reply into an empty piece.
+    /// Puts one whole reply into an empty piece. A refusal for a fault of the device comes only
+    /// where the count of faults rose.
     fn answer(&mut self, ground: &Self::Ground, request: &Request, out: &mut Piece)
         requires asked { IsAsked (asked request.now) }
         requires empty { out.old ≡ [] }
-        ensures reply { (reply : Frame) × (out.new ≡ frame_bytes reply) × answers self.old (asked request.now) reply self.new × IsReplyTo (request_frame (asked request.now)) reply × (IsDiskFault reply → Rose (faults self.old) (faults self.new)) }
-        ensures loans { loans self.new ≡ loans self.old }
-        ensures never_falls { faults self.old ≤ faults self.new };
+        ensures { PutsReply (AnswersWith answers faults loans)
+            self.old (asked request.now) out.new self.new };
 }

@@ -1,5 +1,5 @@
-//! The protocol of a session: requests read and written, replies and refusals, the desk that answers
-//! and the loop that serves a link.
+//! The protocol of a session: requests read and written, replies and refusals, the desk that
+//! answers and the loop that serves a link.
 #![tactic(auto)]
 
 mod client;

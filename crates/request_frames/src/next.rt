@@ -1,6 +1,5 @@
 ghost use Rattle.std.specs.Prelude.{◌≡◌, ◌≤◌, ◌+◌, ◌⊎◌, ◌++◌, ℕ, List, [], length, IsTrue};
-ghost use Rattle.srv_edge.specs.Count.{Rose};
-ghost use Rattle.srv_edge.specs.Stream.{Came};
+ghost use Rattle.srv_edge.specs.Exchange.{CallsSource, CameFrom};
 ghost use Rattle.request_frames.specs.Next.{IsFilled, IsNext};
 
 use srv_edge::{Piece, Source, word_at};
@@ -32,12 +31,10 @@ pub(crate) enum Filled {
 pub(crate) fn next_frame<S: Source>(source: &mut S, limit: u64, frame: &mut Piece) -> Next
     requires { frame.old ≡ [] }
     ensures next { IsNext result frame.new limit }
-    ensures came { Came S.tells frame.new (S.given source.old) (S.left source.old) (S.given source.new) (S.left source.new) }
-    ensures none_left { (result ≡ Next.Ended) ⊎ (result ≡ Next.CutShort) → IsTrue S.tells → S.left source.new ≡ [] }
-    ensures beside { S.beside source.new ≡ S.beside source.old }
-    ensures loans { S.loans source.new ≡ S.loans source.old }
-    ensures never_falls { S.faults source.old ≤ S.faults source.new }
-    ensures failed { result ≡ Next.ReadFault → Rose (S.faults source.old) (S.faults source.new) }
+    ensures came { CameFrom S.Source frame.new source.old source.new }
+    ensures none_left { (result ≡ Next.Ended) ⊎ (result ≡ Next.CutShort) → IsTrue S.tells
+        → S.left source.new ≡ [] }
+    ensures calls { CallsSource S.Source (result ≡ Next.ReadFault) source.old source.new }
 {
     match fill(source, frame, 4, limit) {
         Filled::Full => {}
@@ -64,12 +61,10 @@ fn fill<S: Source>(source: &mut S, piece: &mut Piece, want: usize, limit: u64) -
     requires room { want ≤ 65542 }
     requires within { length piece.old ≤ limit }
     ensures filled { IsFilled result (length piece.new) want limit }
-    ensures came { (more : List ℕ) × (piece.new ≡ piece.old ++ more) × Came S.tells more (S.given source.old) (S.left source.old) (S.given source.new) (S.left source.new) }
+    ensures came { (more : List ℕ) × (piece.new ≡ piece.old ++ more)
+        × CameFrom S.Source more source.old source.new }
     ensures none_left { result ≡ Filled.NothingLeft → IsTrue S.tells → S.left source.new ≡ [] }
-    ensures beside { S.beside source.new ≡ S.beside source.old }
-    ensures loans { S.loans source.new ≡ S.loans source.old }
-    ensures never_falls { S.faults source.old ≤ S.faults source.new }
-    ensures failed { result ≡ Filled.Failed → Rose (S.faults source.old) (S.faults source.new) }
+    ensures calls { CallsSource S.Source (result ≡ Filled.Failed) source.old source.new }
 {
     while piece.len() < want {
         let has = piece.len();

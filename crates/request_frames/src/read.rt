@@ -33,10 +33,12 @@ pub fn read_request<'a>(frame: &'a [u8]) -> Result<Request<'a>, BadFrame>
 }
 
 fn read_hello<'a>(body: &[u8]) -> Result<Request<'a>, BadFrame>
-    ensures request { IfOk result (λ request. request_frame (asked request) ≡ record { kind = 1; body = body.now }) }
+    ensures request { IfOk result
+        (λ request. request_frame (asked request) ≡ record { kind = 1; body = body.now }) }
     ensures asked { IfOk result (λ request. IsAsked (asked request)) }
     ensures err { OnErr result (result ≡ Err BadFrame.Body) }
-    ensures bad { OnErr result ((version : ℕ) → 1 ≤ version → version < 2 ^ 16 → half_bytes version ≢ body.now) }
+    ensures bad { OnErr result
+        ((version : ℕ) → 1 ≤ version → version < 2 ^ 16 → half_bytes version ≢ body.now) }
 {
     if body.len() != 2 {
         return Err(BadFrame::Body);
@@ -49,7 +51,9 @@ fn read_hello<'a>(body: &[u8]) -> Result<Request<'a>, BadFrame>
 }
 
 fn read_name<'a>(body: &'a [u8]) -> Result<Request<'a>, BadFrame>
-    ensures name { IfOk result (λ request. (asked request ≡ add_name body.now) × (length body.now ≤ 65535) × All (λ b. b ≢ 0) body.now) }
+    ensures name { IfOk result
+        (λ request. (asked request ≡ add_name body.now) × (length body.now ≤ 65535)
+        × All (λ b. b ≢ 0) body.now) }
     ensures err { OnErr result (result ≡ Err BadFrame.Body) }
     ensures bad { OnErr result (length body.now ≤ 65535 → All (λ b. b ≢ 0) body.now → ⊥) }
 {

@@ -1,11 +1,11 @@
-ghost use Rattle.std.specs.Prelude.{◌≡◌, ◌≤◌, ◌<◌, ◌⊎◌, ◌↔◌, ℕ, List, [], length, drop, IsTrue, Some};
+ghost use Rattle.std.specs.Prelude.{◌≡◌, ◌≤◌, ◌⊎◌, ◌↔◌, ℕ, List, [], length, drop, IsTrue, Some};
 ghost use Rattle.srv_edge.specs.Count.{Rose};
-ghost use Rattle.srv_edge.specs.Frames.{AreFrames, Frame, IsBye, IsLength, Tail, frame_bytes, length_of, refused};
-ghost use Rattle.srv_edge.specs.Stream.{Came, Went};
+ghost use Rattle.srv_edge.specs.Exchange.{CallsSink, WentTo};
+ghost use Rattle.srv_edge.specs.Frames.{IsBye, IsLength, frame_bytes, length_of, refused};
 ghost use Rattle.request_frames.specs.Requests.{frame_of};
-ghost use Rattle.request_frames.specs.Talk.{AnswersFrame};
-ghost use Rattle.request_frames.specs.Session.{IsInputEnd, IsSession, Sends, end_at};
-ghost use Rattle.request_frames.specs.Next.{EndsInput, IsAnswered, IsTurn, IsWholeFrame};
+ghost use Rattle.request_frames.specs.Session.{Sends};
+ghost use Rattle.request_frames.specs.Serving.{EndsByInput, PutsAnswer, SendsTurn, Serves, TakesTurn};
+ghost use Rattle.request_frames.specs.Next.{IsAnswered, IsWholeFrame};
 
 use crate::desk::Desk;
 use crate::next::{Next, next_frame};
@@ -20,10 +20,8 @@ fn answer_frame<K: Desk>(ground: &K::Ground, desk: &mut K, frame: &[u8], out: &m
     requires some { 1 ≤ length frame.now }
     requires few { length frame.now ≤ 65537 }
     requires empty { out.old ≡ [] }
-    ensures reply { (reply : Frame) × (out.new ≡ frame_bytes reply) × AnswersFrame K.answers desk.old (frame_of frame.now) reply desk.new }
+    ensures reply { PutsAnswer K.Desk desk.old (frame_of frame.now) out.new desk.new }
     ensures bye { IsTrue result ↔ IsBye (frame_of frame.now) }
-    ensures loans { K.loans desk.new ≡ K.loans desk.old }
-    ensures never_falls { K.faults desk.old ≤ K.faults desk.new }
 {
     match read_request(frame) {
         Ok(request) => {
@@ -71,14 +69,10 @@ fn send_answer<L: Link, K: Desk>(
     requires whole { IsWholeFrame frame.now }
     requires within { length frame.now ≤ limit }
     requires empty { reply.old ≡ [] }
-    ensures turn { (sent : List ℕ) × IsTurn K.answers limit desk.old desk.new frame.now sent result × Went L.Sink.tells sent (L.taken link.old) (L.taken link.new) }
-    ensures write_fault { result ≡ Some SessionEnd.WriteFault → Rose (L.Sink.faults link.old) (L.Sink.faults link.new) }
+    ensures sent { SendsTurn L.Sink K.Desk limit frame.now
+        link.old link.new desk.old desk.new result }
     ensures ends { IsAnswered result }
-    ensures beside { L.Sink.beside link.new ≡ L.Sink.beside link.old }
-    ensures link_loans { L.Sink.loans link.new ≡ L.Sink.loans link.old }
-    ensures sink_faults { L.Sink.faults link.old ≤ L.Sink.faults link.new }
-    ensures desk_loans { K.loans desk.new ≡ K.loans desk.old }
-    ensures desk_faults { K.faults desk.old ≤ K.faults desk.new }
+    ensures calls { CallsSink L.Sink (result ≡ Some SessionEnd.WriteFault) link.old link.new }
 {
     let bye = answer_frame(ground, desk, kind_and_body(frame), reply);
     match give_all(link, reply.bytes()) {
@@ -91,12 +85,10 @@ fn send_answer<L: Link, K: Desk>(
 // Refuses the length that stands in the place of a frame.
 fn send_refusal<L: Link>(link: &mut L, length: u32, reply: &mut Piece) -> SessionEnd
     requires { reply.old ≡ [] }
-    ensures sent { (sent : List ℕ) × Sends result sent (frame_bytes (refused 1 length 0)) × Went L.Sink.tells sent (L.taken link.old) (L.taken link.new) }
-    ensures write_fault { result ≡ SessionEnd.WriteFault → Rose (L.Sink.faults link.old) (L.Sink.faults link.new) }
+    ensures sent { (sent : List ℕ) × Sends result sent (frame_bytes (refused 1 length 0))
+        × WentTo L.Sink sent link.old link.new }
     ensures ends { (result ≡ SessionEnd.WriteFault) ⊎ (result ≡ SessionEnd.BadLength) }
-    ensures beside { L.Sink.beside link.new ≡ L.Sink.beside link.old }
-    ensures link_loans { L.Sink.loans link.new ≡ L.Sink.loans link.old }
-    ensures sink_faults { L.Sink.faults link.old ≤ L.Sink.faults link.new }
+    ensures calls { CallsSink L.Sink (result ≡ SessionEnd.WriteFault) link.old link.new }
 {
     write_bad(1, length, reply);
     match give_all(link, reply.bytes()) {
@@ -113,16 +105,8 @@ fn serve_next<L: Link, K: Desk>(
     limit: u64,
     room: &mut Room,
 ) -> Option<SessionEnd>
-    ensures turn { (sent : List ℕ) × IsTurn K.answers limit desk.old desk.new room.new.frame sent result × Went L.Sink.tells sent (L.taken link.old) (L.taken link.new) }
-    ensures came { Came L.Source.tells room.new.frame (L.given link.old) (L.left link.old) (L.given link.new) (L.left link.new) }
-    ensures none_left { EndsInput result → IsTrue L.Source.tells → L.left link.new ≡ [] }
-    ensures read_fault { result ≡ Some SessionEnd.ReadFault → Rose (L.Source.faults link.old) (L.Source.faults link.new) }
-    ensures write_fault { result ≡ Some SessionEnd.WriteFault → Rose (L.Sink.faults link.old) (L.Sink.faults link.new) }
-    ensures link_loans { L.Source.loans link.new ≡ L.Source.loans link.old }
-    ensures source_faults { L.Source.faults link.old ≤ L.Source.faults link.new }
-    ensures sink_faults { L.Sink.faults link.old ≤ L.Sink.faults link.new }
-    ensures desk_loans { K.loans desk.new ≡ K.loans desk.old }
-    ensures desk_faults { K.faults desk.old ≤ K.faults desk.new }
+    ensures { TakesTurn L.Source L.Sink K.Desk limit room.new.frame
+        link.old link.new desk.old desk.new result }
 {
     room.frame.clear();
     room.reply.clear();
@@ -136,9 +120,10 @@ fn serve_next<L: Link, K: Desk>(
     }
 }
 
-/// Serves a link until its end: reads the four bytes of a length and as many as it says, has the desk
-/// answer, sends the reply, and so on. It asks a source for the rest of a length or a frame, of which
-/// any front may come, and for no more than `limit` bytes in all. What the room holds does not matter.
+/// Serves a link until its end: reads the four bytes of a length and as many as it says, has the
+/// desk answer, sends the reply, and so on. It asks a source for the rest of a length or a frame,
+/// of which any front may come, and for no more than `limit` bytes in all. What the room holds does
+/// not matter.
 pub fn serve_link<L: Link, K: Desk>(
     ground: &K::Ground,
     link: &mut L,
@@ -146,46 +131,12 @@ pub fn serve_link<L: Link, K: Desk>(
     limit: u64,
     room: &mut Room,
 ) -> SessionEnd
-    // These bytes came and these went, and they are a session of the desk.
-    ensures session { (read : List ℕ) × (sent : List ℕ) × IsSession K.answers limit desk.old desk.new read sent result
-        × Came L.Source.tells read (L.given link.old) (L.left link.old) (L.given link.new) (L.left link.new)
-        × Went L.Sink.tells sent (L.taken link.old) (L.taken link.new) }
-    ensures none_left { IsInputEnd result → IsTrue L.Source.tells → L.left link.new ≡ [] }
-    ensures read_fault { result ≡ SessionEnd.ReadFault → Rose (L.Source.faults link.old) (L.Source.faults link.new) }
-    ensures write_fault { result ≡ SessionEnd.WriteFault → Rose (L.Sink.faults link.old) (L.Sink.faults link.new) }
-    ensures source_faults { L.Source.faults link.old ≤ L.Source.faults link.new }
-    ensures sink_faults { L.Sink.faults link.old ≤ L.Sink.faults link.new }
-    ensures desk_faults { K.faults desk.old ≤ K.faults desk.new }
-    ensures link_loans { L.Source.loans link.new ≡ L.Source.loans link.old }
-    ensures desk_loans { K.loans desk.new ≡ K.loans desk.old }
-
+    ensures serves { Serves L.Source L.Sink K.Desk limit
+        link.old link.new desk.old desk.new result }
     // Where nothing fails, the input alone says how it ends.
-    ensures end { IsTrue L.Source.tells → ¬ Rose (L.Source.faults link.old) (L.Source.faults link.new) → ¬ Rose (L.Sink.faults link.old) (L.Sink.faults link.new)
-        → length (L.left link.old) < limit → (frames : List Frame) (tail : Tail) → AreFrames (L.left link.old) frames tail → result ≡ end_at tail }
-{
-    serve_frames(ground, link, desk, limit, room)
-}
-
-// Turn after turn, up to the end.
-fn serve_frames<L: Link, K: Desk>(
-    ground: &K::Ground,
-    link: &mut L,
-    desk: &mut K,
-    limit: u64,
-    room: &mut Room,
-) -> SessionEnd
-    // These bytes came and these went, and they are a session of the desk.
-    ensures session { (read : List ℕ) × (sent : List ℕ) × IsSession K.answers limit desk.old desk.new read sent result
-        × Came L.Source.tells read (L.given link.old) (L.left link.old) (L.given link.new) (L.left link.new)
-        × Went L.Sink.tells sent (L.taken link.old) (L.taken link.new) }
-    ensures none_left { IsInputEnd result → IsTrue L.Source.tells → L.left link.new ≡ [] }
-    ensures read_fault { result ≡ SessionEnd.ReadFault → Rose (L.Source.faults link.old) (L.Source.faults link.new) }
-    ensures write_fault { result ≡ SessionEnd.WriteFault → Rose (L.Sink.faults link.old) (L.Sink.faults link.new) }
-    ensures source_faults { L.Source.faults link.old ≤ L.Source.faults link.new }
-    ensures sink_faults { L.Sink.faults link.old ≤ L.Sink.faults link.new }
-    ensures desk_faults { K.faults desk.old ≤ K.faults desk.new }
-    ensures link_loans { L.Source.loans link.new ≡ L.Source.loans link.old }
-    ensures desk_loans { K.loans desk.new ≡ K.loans desk.old }
+    ensures end { EndsByInput L.Source.tells limit (L.left link.old)
+        (Rose (L.Source.faults link.old) (L.Source.faults link.new))
+        (Rose (L.Sink.faults link.old) (L.Sink.faults link.new)) result }
 {
     let mut budget = limit;
     'frames: loop {

@@ -7,3 +7,4 @@ pub mod Ranges
 mod Padded
 mod Replaying
 pub mod Settled
+pub mod Exchanging

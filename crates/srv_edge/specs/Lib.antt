@@ -3,7 +3,8 @@ pub mod Stream
 pub mod Frames
 pub mod Records
 pub mod Memory
-pub mod Faults
+pub mod Reading
+pub mod Growth
 pub mod Disk
 pub mod Torn
 pub mod Still
@@ -14,3 +15,5 @@ pub mod Past
 pub mod Contents
 pub mod Recorded
 pub mod Images
+pub mod Standard
+pub mod Exchange

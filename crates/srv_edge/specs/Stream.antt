@@ -31,6 +31,11 @@ abbrev pub WentInPart : Bool → List ℕ → List ℕ → List ℕ → Type 0
 WentInPart tells bytes taken taken' =
     (part : List ℕ) × (more : List ℕ) × (bytes ≡ part ++ more) × (0 < length more) × Went tells part taken taken'
 
+-- all of the bytes went to a sink, or at a failure a front of them that is not all
+abbrev pub WentAsAnswered : {A E : Type 0} → Bool → Result A E → List ℕ → List ℕ → List ℕ → Type 0
+WentAsAnswered tells result bytes taken taken' =
+    MatchResult result (λ _. Went tells bytes taken taken') (λ _. WentInPart tells bytes taken taken')
+
 -- What a value tells beside its being a source or a sink: as a link does, which is both.
 pub record Told : Type 0 where
   pub bytes : List ℕ

@@ -21,9 +21,11 @@ impl<'a, S: Source, K: Sink> Source for Both<'a, S, K> {
 
     ghost faults = { λ b. S.faults b.source.now };
 
-    ghost loans = { λ b. b.source.ghost_name ∷ b.sink.ghost_name ∷ (S.loans b.source.now ++ K.loans b.sink.now) };
+    ghost loans = { λ b. b.source.ghost_name ∷ b.sink.ghost_name
+        ∷ (S.loans b.source.now ++ K.loans b.sink.now) };
 
-    ghost beside = { λ b. record { bytes = K.taken b.sink.now; rest = []; faults = K.faults b.sink.now } };
+    ghost beside = { λ b. record
+        { bytes = K.taken b.sink.now; rest = []; faults = K.faults b.sink.now } };
 
     fn take(&mut self, into: &mut [u8]) -> Result<usize, Failed> {
         Source::take(&mut *self.source, into)
@@ -37,9 +39,11 @@ impl<'a, S: Source, K: Sink> Sink for Both<'a, S, K> {
 
     ghost faults = { λ b. K.faults b.sink.now };
 
-    ghost loans = { λ b. b.source.ghost_name ∷ b.sink.ghost_name ∷ (S.loans b.source.now ++ K.loans b.sink.now) };
+    ghost loans = { λ b. b.source.ghost_name ∷ b.sink.ghost_name
+        ∷ (S.loans b.source.now ++ K.loans b.sink.now) };
 
-    ghost beside = { λ b. record { bytes = S.given b.source.now; rest = S.left b.source.now; faults = S.faults b.source.now } };
+    ghost beside = { λ b. record
+        { bytes = S.given b.source.now; rest = S.left b.source.now; faults = S.faults b.source.now } };
 
     fn give(&mut self, bytes: &[u8]) -> Result<usize, Failed> {
         Sink::give(&mut *self.sink, bytes)

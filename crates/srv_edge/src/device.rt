@@ -1,5 +1,5 @@
-ghost use Rattle.std.specs.Prelude.{◌≡◌, ◌≤◌, ◌+◌, ◌^◌, ℕ, Bool, false, IsTrue, List, [], length, take, drop, IfOk, OnOk, OnErr};
-ghost use Rattle.srv_edge.specs.Count.{Rose};
+ghost use Rattle.std.specs.Prelude.{◌≡◌, ◌≤◌, ◌+◌, ◌^◌, ℕ, Bool, false, IsTrue, List, [], length, take, drop, IfOk, OnOk, IsErr};
+ghost use Rattle.srv_edge.specs.Count.{HasCause};
 ghost use Rattle.srv_edge.specs.Disk.{spliced, headed, Torn, Whole, Follows, Among, Only, Elapses};
 
 use crate::failed::Failed;
@@ -43,48 +43,53 @@ pub trait Device {
         ensures size { IsTrue tells → IfOk result (λ n. n ≡ length (seen self.old)) }
         ensures seen { seen self.new ≡ seen self.old }
         ensures crash { Among (may_leave self.old) (may_leave self.new) }
-        ensures time { Elapses (moment self.old) (moment self.new) (left_since self.old) (left_since self.new) (may_leave self.new) }
+        ensures time { Elapses (moment self.old) (moment self.new)
+            (left_since self.old) (left_since self.new) (may_leave self.new) }
         ensures loans { loans self.new ≡ loans self.old }
-        ensures never_falls { fault_count self.old ≤ fault_count self.new }
-        ensures failed { OnErr result (Rose (fault_count self.old) (fault_count self.new)) };
+        ensures cause { HasCause (IsErr result) (fault_count self.old) (fault_count self.new) };
 
-    /// Fills the slice with the bytes from a place on. It changes neither what a read gives (`seen`)
-    /// nor the images (`crash`). A device that does not tell its content counts a read past the end
-    /// as a fault.
+    /// Fills the slice with the bytes from a place on. It changes neither what a read gives
+    /// (`seen`) nor the images (`crash`). A device that does not tell its content counts a read
+    /// past the end as a fault.
     fn read(&mut self, at: u64, out: &mut [u8]) -> Result<(), Failed>
         requires within { IsTrue tells → at + length out.old ≤ length (seen self.old) }
-        ensures bytes { IsTrue tells → OnOk result (out.new ≡ take (length out.old) (drop at (seen self.old))) }
+        ensures bytes { IsTrue tells
+            → OnOk result (out.new ≡ take (length out.old) (drop at (seen self.old))) }
         ensures seen { seen self.new ≡ seen self.old }
         ensures crash { Among (may_leave self.old) (may_leave self.new) }
-        ensures time { Elapses (moment self.old) (moment self.new) (left_since self.old) (left_since self.new) (may_leave self.new) }
+        ensures time { Elapses (moment self.old) (moment self.new)
+            (left_since self.old) (left_since self.new) (may_leave self.new) }
         ensures loans { loans self.new ≡ loans self.old }
-        ensures never_falls { fault_count self.old ≤ fault_count self.new }
-        ensures failed { OnErr result (Rose (fault_count self.old) (fault_count self.new)) };
+        ensures cause { HasCause (IsErr result) (fault_count self.old) (fault_count self.new) };
 
     /// Writes over what is there, and past the end. Whether it answers Ok or Failed, each image is
-    /// then one from before in which the range holds any bytes and all bytes outside it stay, and is
-    /// no shorter; at and past the old end it holds any bytes (`crash`). After Ok a read gives the
-    /// bytes in their range, what it gave before elsewhere, and zeros between the old end and the
-    /// range (`written`). It never meets the head (`behind_head`).
+    /// then one from before in which the range holds any bytes and all bytes outside it stay, and
+    /// is no shorter; at and past the old end it holds any bytes (`crash`). After Ok a read gives
+    /// the bytes in their range, what it gave before elsewhere, and zeros between the old end and
+    /// the range (`written`). It never meets the head (`behind_head`).
     fn write(&mut self, at: u64, bytes: &[u8]) -> Result<(), Failed>
         requires behind_head { 512 ≤ at }
         requires end { at + length bytes.now ≤ 2 ^ 35 }
-        ensures written { IsTrue tells → OnOk result (seen self.new ≡ spliced (seen self.old) at bytes.now) }
-        ensures crash { Follows (Torn at (length bytes.now)) (may_leave self.old) (may_leave self.new) }
-        ensures time { Elapses (moment self.old) (moment self.new) (left_since self.old) (left_since self.new) (may_leave self.new) }
+        ensures written { IsTrue tells
+            → OnOk result (seen self.new ≡ spliced (seen self.old) at bytes.now) }
+        ensures crash { Follows (Torn at (length bytes.now)) (may_leave self.old)
+            (may_leave self.new) }
+        ensures time { Elapses (moment self.old) (moment self.new)
+            (left_since self.old) (left_since self.new) (may_leave self.new) }
         ensures loans { loans self.new ≡ loans self.old }
-        ensures never_falls { fault_count self.old ≤ fault_count self.new }
-        ensures failed { OnErr result (Rose (fault_count self.old) (fault_count self.new)) };
+        ensures cause { HasCause (IsErr result) (fault_count self.old) (fault_count self.new) };
 
-    /// Writes the head. Whether it answers Ok or Failed, a crash leaves the head whole or not at all
-    /// (`crash`). After Ok a read gives the head, and behind it what it gave before (`written`).
+    /// Writes the head. Whether it answers Ok or Failed, a crash leaves the head whole or not at
+    /// all (`crash`). After Ok a read gives the head, and behind it what it gave before
+    /// (`written`).
     fn write_super(&mut self, bytes: &[u8; 56]) -> Result<(), Failed>
-        ensures written { IsTrue tells → OnOk result (seen self.new ≡ headed (seen self.old) bytes.now) }
+        ensures written { IsTrue tells
+            → OnOk result (seen self.new ≡ headed (seen self.old) bytes.now) }
         ensures crash { Follows (Whole bytes.now) (may_leave self.old) (may_leave self.new) }
-        ensures time { Elapses (moment self.old) (moment self.new) (left_since self.old) (left_since self.new) (may_leave self.new) }
+        ensures time { Elapses (moment self.old) (moment self.new)
+            (left_since self.old) (left_since self.new) (may_leave self.new) }
         ensures loans { loans self.new ≡ loans self.old }
-        ensures never_falls { fault_count self.old ≤ fault_count self.new }
-        ensures failed { OnErr result (Rose (fault_count self.old) (fault_count self.new)) };
+        ensures cause { HasCause (IsErr result) (fault_count self.old) (fault_count self.new) };
 
     /// After Ok the only image is what a read gives (`durable`). One that fails settles nothing and
     /// adds no image (`crash`). It never changes what a read gives (`seen`).
@@ -92,10 +97,10 @@ pub trait Device {
         ensures durable { OnOk result (Only (seen self.old) (may_leave self.new)) }
         ensures seen { seen self.new ≡ seen self.old }
         ensures crash { Among (may_leave self.old) (may_leave self.new) }
-        ensures time { Elapses (moment self.old) (moment self.new) (left_since self.old) (left_since self.new) (may_leave self.new) }
+        ensures time { Elapses (moment self.old) (moment self.new)
+            (left_since self.old) (left_since self.new) (may_leave self.new) }
         ensures loans { loans self.new ≡ loans self.old }
-        ensures never_falls { fault_count self.old ≤ fault_count self.new }
-        ensures failed { OnErr result (Rose (fault_count self.old) (fault_count self.new)) };
+        ensures cause { HasCause (IsErr result) (fault_count self.old) (fault_count self.new) };
 
     /// How often it has failed. It stands still at its last value.
     fn faults(&self) -> u64
@@ -108,7 +113,8 @@ pub trait Device {
     ghost seen_is_one: { (d : Self) → IsTrue tells → may_leave d (seen d) };
 
     /// This moment is one of those since an earlier one.
-    ghost counts_now: { (d : Self) (t : ℕ) (c : List ℕ) → t ≤ moment d → may_leave d c → left_since d t c };
+    ghost counts_now: { (d : Self) (t : ℕ) (c : List ℕ) → t ≤ moment d → may_leave d c
+        → left_since d t c };
 
     /// Since this moment there is no other.
     ghost only_now: { (d : Self) (c : List ℕ) → left_since d (moment d) c → may_leave d c };

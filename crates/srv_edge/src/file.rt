@@ -1,25 +1,24 @@
-ghost use Rattle.std.specs.Prelude.{◌≡◌, ◌≤◌, ◌+◌, IsNone, IsErr, min, false, true};
-ghost use Rattle.srv_edge.specs.Count.{last_count};
-ghost use Rattle.srv_edge.specs.Faults.{Counts};
+ghost use Rattle.std.specs.Prelude.{◌≡◌, IsNone, false, true};
 
 use crate::device::Device;
 use crate::failed::Failed;
+use crate::faults::FaultCount;
 use std::fs::OpenFile;
 use std::os::unix::fs::FileExt;
 
 /// A file of the system, such as a [`std::fs::File`] that is open for reading and writing. It tells
 /// no content.
 ///
-/// What the system does with the bytes is trusted. Of each call only its count is proved: it rises by
-/// one at each error, and at nothing else. An error is what the system answers so, a read past the
-/// end, and a head that the system takes in part. Reads and writes are positioned and go on where the
-/// system does a part of them; a head is one write of 56 bytes, which a crash is trusted to leave
-/// whole or not at all; a sync asks for data and length both. A read of no bytes asks nothing of the
-/// system.
+/// What the system does with the bytes is trusted. Of each call only its count is proved: it rises
+/// by one at each error, and at nothing else. An error is what the system answers so, a read past
+/// the end, and a head that the system takes in part. Reads and writes are positioned and go on
+/// where the system does a part of them; a head is one write of 56 bytes, which a crash is trusted
+/// to leave whole or not at all; a sync asks for data and length both. A read of no bytes asks
+/// nothing of the system.
 #[derive(Drop)]
 pub struct FileDevice<F> {
     file: Option<F>,
-    faults: u64,
+    faults: FaultCount,
 }
 
 impl<F: FileExt + OpenFile> FileDevice<F> {
@@ -31,7 +30,7 @@ impl<F: FileExt + OpenFile> FileDevice<F> {
     {
         FileDevice {
             file: Some(file),
-            faults: 0,
+            faults: FaultCount::NONE,
         }
     }
 
@@ -42,26 +41,15 @@ impl<F: FileExt + OpenFile> FileDevice<F> {
     {
         FileDevice {
             file: None,
-            faults: 0,
+            faults: FaultCount::NONE,
         }
-    }
-
-    // Counts a fault.
-    fn fault(&mut self) -> Failed
-        ensures file { self.new.file ≡ self.old.file }
-        ensures counted { self.new.faults ≡ min (self.old.faults + 1) last_count }
-        ensures never_falls { self.old.faults ≤ self.new.faults }
-    {
-        let faults = self.faults;
-        self.faults = faults.saturating_add(1);
-        Failed
     }
 }
 
 impl<F: FileExt + OpenFile> Device for FileDevice<F> {
-    ghost use Rattle.srv_edge.specs.Absent.{is_absent};
+    ghost use Rattle.srv_edge.specs.Absent.{CallsFile};
 
-    ghost fault_count = { λ d. d.faults };
+    ghost fault_count = { λ d. d.faults.count };
 
     ghost told = { λ d c none. absurd none };
 
@@ -72,71 +60,56 @@ impl<F: FileExt + OpenFile> Device for FileDevice<F> {
     ghost only_now = { λ d c none. none };
 
     fn size(&mut self) -> Result<u64, Failed>
-        ensures counted { Counts (⟦<FileDevice<F> as Device>⟧.fault_count self.old) result (⟦<FileDevice<F> as Device>⟧.fault_count self.new) }
-        ensures never_falls { ⟦<FileDevice<F> as Device>⟧.fault_count self.old ≤ ⟦<FileDevice<F> as Device>⟧.fault_count self.new }
-        ensures present { is_absent self.new ≡ is_absent self.old }
-        ensures absent { is_absent self.old ≡ true → IsErr result }
+        ensures { CallsFile self.old result self.new }
     {
         let Some(size) = size_of(&self.file) else {
-            return Err(self.fault());
+            return Err(self.faults.add());
         };
         Ok(size)
     }
 
     fn read(&mut self, at: u64, out: &mut [u8]) -> Result<(), Failed>
-        ensures counted { Counts (⟦<FileDevice<F> as Device>⟧.fault_count self.old) result (⟦<FileDevice<F> as Device>⟧.fault_count self.new) }
-        ensures never_falls { ⟦<FileDevice<F> as Device>⟧.fault_count self.old ≤ ⟦<FileDevice<F> as Device>⟧.fault_count self.new }
-        ensures present { is_absent self.new ≡ is_absent self.old }
-        ensures absent { is_absent self.old ≡ true → IsErr result }
+        ensures { CallsFile self.old result self.new }
     {
         if read_all(&self.file, at, out) {
             Ok(())
         } else {
-            Err(self.fault())
+            Err(self.faults.add())
         }
     }
 
     fn write(&mut self, at: u64, bytes: &[u8]) -> Result<(), Failed>
-        ensures counted { Counts (⟦<FileDevice<F> as Device>⟧.fault_count self.old) result (⟦<FileDevice<F> as Device>⟧.fault_count self.new) }
-        ensures never_falls { ⟦<FileDevice<F> as Device>⟧.fault_count self.old ≤ ⟦<FileDevice<F> as Device>⟧.fault_count self.new }
-        ensures present { is_absent self.new ≡ is_absent self.old }
-        ensures absent { is_absent self.old ≡ true → IsErr result }
+        ensures { CallsFile self.old result self.new }
     {
         if write_all(&self.file, at, bytes) {
             Ok(())
         } else {
-            Err(self.fault())
+            Err(self.faults.add())
         }
     }
 
     fn write_super(&mut self, bytes: &[u8; 56]) -> Result<(), Failed>
-        ensures counted { Counts (⟦<FileDevice<F> as Device>⟧.fault_count self.old) result (⟦<FileDevice<F> as Device>⟧.fault_count self.new) }
-        ensures never_falls { ⟦<FileDevice<F> as Device>⟧.fault_count self.old ≤ ⟦<FileDevice<F> as Device>⟧.fault_count self.new }
-        ensures present { is_absent self.new ≡ is_absent self.old }
-        ensures absent { is_absent self.old ≡ true → IsErr result }
+        ensures { CallsFile self.old result self.new }
     {
         if write_once(&self.file, bytes) {
             Ok(())
         } else {
-            Err(self.fault())
+            Err(self.faults.add())
         }
     }
 
     fn sync(&mut self) -> Result<(), Failed>
-        ensures counted { Counts (⟦<FileDevice<F> as Device>⟧.fault_count self.old) result (⟦<FileDevice<F> as Device>⟧.fault_count self.new) }
-        ensures never_falls { ⟦<FileDevice<F> as Device>⟧.fault_count self.old ≤ ⟦<FileDevice<F> as Device>⟧.fault_count self.new }
-        ensures present { is_absent self.new ≡ is_absent self.old }
-        ensures absent { is_absent self.old ≡ true → IsErr result }
+        ensures { CallsFile self.old result self.new }
     {
         if sync_all(&self.file) {
             Ok(())
         } else {
-            Err(self.fault())
+            Err(self.faults.add())
         }
     }
 
     fn faults(&self) -> u64 {
-        self.faults
+        self.faults.count
     }
 }
 

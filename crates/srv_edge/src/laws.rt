@@ -2,14 +2,17 @@ ghost use Rattle.std.specs.Prelude.{◌≡◌, ℕ, List};
 ghost use Rattle.srv_edge.specs.Frames.{AreFrames, Frame, Tail};
 ghost use Rattle.srv_edge.specs.Replay.{IsImage, KeepsSettled, Step};
 
-/// A law: an image of a file in memory is no shorter than the file at the last good sync, and has its
-/// bytes where no step since covers them.
+/// A law: an image of a file in memory is no shorter than the file at the last good sync, and has
+/// its bytes where no step since covers them.
 pub fn images_keep_settled()
-    ensures { (settled : List ℕ) (steps : List Step) (c : List ℕ) → IsImage settled steps c → KeepsSettled settled steps c }
+    ensures { (settled : List ℕ) (steps : List Step) (c : List ℕ) → IsImage settled steps c
+        → KeepsSettled settled steps c }
 {}
 
 /// A law: the same bytes are read as frames in one way.
 pub fn one_reading()
-    ensures frames { (bytes : List ℕ) (fs gs : List Frame) (t u : Tail) → AreFrames bytes fs t → AreFrames bytes gs u → fs ≡ gs }
-    ensures tail { (bytes : List ℕ) (fs gs : List Frame) (t u : Tail) → AreFrames bytes fs t → AreFrames bytes gs u → t ≡ u }
+    ensures frames { (bytes : List ℕ) (fs gs : List Frame) (t u : Tail) → AreFrames bytes fs t
+        → AreFrames bytes gs u → fs ≡ gs }
+    ensures tail { (bytes : List ℕ) (fs gs : List Frame) (t u : Tail) → AreFrames bytes fs t
+        → AreFrames bytes gs u → t ≡ u }
 {}

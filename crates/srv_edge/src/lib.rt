@@ -1,11 +1,14 @@
-//! What the program meets outside itself: sources and sinks of bytes, and devices, with their fakes in
-//! memory, the standard streams and a file of the system; and the plain types that all crates above share.
+//! What the program meets outside itself: sources and sinks of bytes, and devices, with their fakes
+//! in memory, the standard streams and a file of the system; and the plain types that all crates
+//! above share.
 #![tactic(auto)]
 
 mod both;
 mod device;
 mod failed;
+mod faults;
 mod file;
+mod give;
 mod laws;
 mod link;
 mod memory;
@@ -26,7 +29,9 @@ mod words;
 pub use crate::both::Both;
 pub use crate::device::Device;
 pub use crate::failed::{Failed, Limits, Refusal, SessionEnd};
+pub use crate::faults::FaultCount;
 pub use crate::file::FileDevice;
+pub use crate::give::give_all;
 pub use crate::laws::{images_keep_settled, one_reading};
 pub use crate::link::Link;
 pub use crate::memory::{MemLink, MemSink, MemSource};
@@ -34,7 +39,7 @@ pub use crate::memory_device::MemDevice;
 pub use crate::memory_record::CallKind;
 pub use crate::piece::{PIECE_BYTES, Piece, Room, Text};
 pub use crate::records::RecordList;
-pub use crate::sink::{Sink, give_all};
+pub use crate::sink::Sink;
 pub use crate::source::Source;
 pub use crate::standard::{StdIn, StdOut};
 pub use crate::still::StillDevice;

@@ -1,11 +1,42 @@
-ghost use Rattle.std.specs.Prelude.{◌≡◌, ◌≤◌, ◌<◌, ◌++◌, ℕ, true, [], length, min, take, drop, vec_len, refl};
+ghost use Rattle.std.specs.Prelude.{◌≡◌, ◌≤◌, ◌<◌, ◌+◌, ◌++◌, ◌-◌, ◌^◌, true, [], length, min, take, drop, vec_len, refl};
+ghost use Rattle.srv_edge.specs.Replay.{is_to_fail};
 ghost use Rattle.srv_edge.specs.Stream.{nothing_told};
 
 use crate::failed::Failed;
+use crate::faults::FaultCount;
 use crate::link::Link;
 use crate::sink::Sink;
 use crate::source::Source;
 use std::alloc::Global;
+
+/// Which calls are to fail, counted from 0, and how many were made. That number stands still at its
+/// last value.
+#[derive(Drop)]
+pub struct Failing {
+    pub calls: Vec<u32>,
+    pub made: u32,
+}
+
+impl Failing {
+    /// Before the first call.
+    pub fn new(calls: Vec<u32>) -> Failing
+        ensures calls { result.calls ≡ calls }
+        ensures made { result.made ≡ 0 }
+    {
+        Failing { calls, made: 0 }
+    }
+
+    /// Makes a call, and answers whether it is to fail.
+    pub fn next(&mut self) -> bool
+        ensures fails { result ≡ is_to_fail self.old.calls.items self.old.made }
+        ensures calls { self.new.calls ≡ self.old.calls }
+        ensures made { self.new.made ≡ min (self.old.made + 1) (2 ^ 32 - 1) }
+    {
+        let fails = self.calls.contains(&self.made);
+        self.made = self.made.saturating_add(1);
+        fails
+    }
+}
 
 /// Bytes in memory, at most so many a call. It fails at the calls that it is given, counted from 0.
 #[derive(Drop)]
@@ -13,47 +44,46 @@ pub struct MemSource {
     bytes: Vec<u8>,
     at: usize,
     piece: usize,
-    fail: Vec<u32>,
-    calls: u32,
-    faults: u64,
+    failing: Failing,
+    faults: FaultCount,
     ghost within: { at ≤ vec_len bytes },
     ghost some: { 0 < piece },
 }
 
 impl MemSource {
+    ghost use Rattle.srv_edge.specs.Memory.{IsNewSource};
+
     pub fn new(bytes: Vec<u8>, piece: usize, fail: Vec<u32>) -> MemSource
         requires { 0 < piece }
-        ensures given { ⟦<MemSource as Source>⟧.given result ≡ [] }
-        ensures left { ⟦<MemSource as Source>⟧.left result ≡ bytes.items }
-        ensures faults { ⟦<MemSource as Source>⟧.faults result ≡ 0 }
+        ensures { IsNewSource bytes.items piece fail.items result }
     {
         MemSource {
             bytes,
             at: 0,
             piece,
-            fail,
-            calls: 0,
-            faults: 0,
+            failing: Failing::new(fail),
+            faults: FaultCount::NONE,
         }
     }
 }
 
 impl Source for MemSource {
+    ghost use Rattle.srv_edge.specs.Memory.{IsTake, given_by, left_in};
+
     ghost tells = { true };
 
-    ghost given = { λ s. take s.at s.bytes.items };
+    ghost given = { given_by };
 
-    ghost left = { λ s. drop s.at s.bytes.items };
+    ghost left = { left_in };
 
-    ghost faults = { λ s. s.faults };
+    ghost faults = { λ s. s.faults.count };
 
-    fn take(&mut self, into: &mut [u8]) -> Result<usize, Failed> {
-        let faults = self.faults;
-        let fails = self.fail.contains(&self.calls);
-        self.calls = self.calls.saturating_add(1);
-        if fails {
-            self.faults = faults.saturating_add(1);
-            return Err(Failed);
+    fn take(&mut self, into: &mut [u8]) -> Result<usize, Failed>
+        requires { 0 < length into.old }
+        ensures { IsTake (length into.old) self.old into.new result self.new }
+    {
+        if self.failing.next() {
+            return Err(self.faults.add());
         }
         let n = copy_front(&self.bytes[self.at..], into, self.piece);
         self.at += n;
@@ -76,49 +106,45 @@ fn copy_front(bytes: &[u8], into: &mut [u8], most: usize) -> usize
 #[derive(Drop)]
 pub struct MemSink {
     taken: Vec<u8>,
-    fail: Vec<u32>,
-    calls: u32,
-    faults: u64,
+    failing: Failing,
+    faults: FaultCount,
 }
 
 impl MemSink {
-    ghost use Rattle.srv_edge.specs.Memory.{failing_gives};
+    ghost use Rattle.srv_edge.specs.Memory.{IsNewSink, taken_by};
 
     pub fn new(alloc: Global, fail: Vec<u32>) -> MemSink
-        ensures taken { ⟦<MemSink as Sink>⟧.taken result ≡ [] }
-        ensures fails { failing_gives result ≡ fail.items }
-        ensures faults { ⟦<MemSink as Sink>⟧.faults result ≡ 0 }
+        ensures { IsNewSink fail.items result }
     {
         MemSink {
             taken: Vec::new(alloc),
-            fail,
-            calls: 0,
-            faults: 0,
+            failing: Failing::new(fail),
+            faults: FaultCount::NONE,
         }
     }
 
     /// What it has taken.
     pub fn taken(&self) -> &[u8]
-        ensures { result.now ≡ ⟦<MemSink as Sink>⟧.taken self.now }
+        ensures { result.now ≡ taken_by self.now }
     {
         &self.taken
     }
 }
 
 impl Sink for MemSink {
+    ghost use Rattle.srv_edge.specs.Memory.{IsGive, taken_by};
+
     ghost tells = { true };
 
-    ghost taken = { λ s. s.taken.items };
+    ghost taken = { taken_by };
 
-    ghost faults = { λ s. s.faults };
+    ghost faults = { λ s. s.faults.count };
 
-    fn give(&mut self, bytes: &[u8]) -> Result<usize, Failed> {
-        let faults = self.faults;
-        let fails = self.fail.contains(&self.calls);
-        self.calls = self.calls.saturating_add(1);
-        if fails || self.taken.extend_from_slice(bytes).is_err() {
-            self.faults = faults.saturating_add(1);
-            return Err(Failed);
+    fn give(&mut self, bytes: &[u8]) -> Result<usize, Failed>
+        ensures { IsGive self.old bytes.now result self.new }
+    {
+        if self.failing.next() || self.taken.extend_from_slice(bytes).is_err() {
+            return Err(self.faults.add());
         }
         Ok(bytes.len())
     }
@@ -140,7 +166,11 @@ impl Source for MemLink {
 
     ghost faults = { λ l. ⟦<MemSource as Source>⟧.faults l.source };
 
-    ghost beside = { λ l. record { bytes = ⟦<MemSink as Sink>⟧.taken l.sink; rest = []; faults = ⟦<MemSink as Sink>⟧.faults l.sink } };
+    ghost beside = { λ l. record {
+      bytes = ⟦<MemSink as Sink>⟧.taken l.sink;
+      rest = [];
+      faults = ⟦<MemSink as Sink>⟧.faults l.sink;
+    } };
 
     fn take(&mut self, into: &mut [u8]) -> Result<usize, Failed> {
         self.source.take(into)
@@ -154,7 +184,11 @@ impl Sink for MemLink {
 
     ghost faults = { λ l. ⟦<MemSink as Sink>⟧.faults l.sink };
 
-    ghost beside = { λ l. record { bytes = ⟦<MemSource as Source>⟧.given l.source; rest = ⟦<MemSource as Source>⟧.left l.source; faults = ⟦<MemSource as Source>⟧.faults l.source } };
+    ghost beside = { λ l. record {
+      bytes = ⟦<MemSource as Source>⟧.given l.source;
+      rest = ⟦<MemSource as Source>⟧.left l.source;
+      faults = ⟦<MemSource as Source>⟧.faults l.source;
+    } };
 
     fn give(&mut self, bytes: &[u8]) -> Result<usize, Failed> {
         self.sink.give(bytes)

@@ -1,13 +1,12 @@
-ghost use Rattle.std.specs.Prelude.{◌≡◌, ◌≤◌, ◌<◌, ◌+◌, ◌^◌, ◌⊎◌, ℕ, true, false, List, [], length, take, drop, min, slice_get, vec_len, vec_capacity, refl, IfOk, OnOk, OnErr, MatchResult};
+ghost use Rattle.std.specs.Prelude.{◌≡◌, ◌≤◌, ◌<◌, ◌+◌, ◌^◌, true, [], length, take, drop, slice_get, vec_len, vec_capacity, refl, IfOk, OnOk};
 ghost use Rattle.srv_edge.specs.Disk.{spliced, headed, Torn, Whole, Follows, Among, Only};
 ghost use Rattle.srv_edge.specs.Contents.{shown};
-ghost use Rattle.srv_edge.specs.Count.{last_count};
-ghost use Rattle.srv_edge.specs.Faults.{Counts};
 ghost use Rattle.srv_edge.specs.Kinds.{place_of, IsStill, IsChange};
-ghost use Rattle.srv_edge.specs.Replay.{State, IsImageOf, LeftSince, Keeps, KeepsAs, after_kind, image_of, is_to_fail, state_of};
+ghost use Rattle.srv_edge.specs.Replay.{State, IsImageOf, LeftSince, KeepsAs, after_kind, image_of, is_to_fail, state_of};
 
 use crate::device::Device;
 use crate::failed::Failed;
+use crate::faults::FaultCount;
 use crate::memory_image::replayed;
 use crate::memory_record::{Call, CallKind, Contents};
 use std::alloc::{AllocError, Global};
@@ -26,17 +25,17 @@ pub struct MemDevice {
     file: Contents,
     calls: Vec<Call>,
     fail: Vec<u32>,
-    faults: u64,
+    faults: FaultCount,
     ghost few: { vec_len calls < 2 ^ 32 },
     ghost shows: { shown file ≡ (state_of file.first.items calls.items).seen },
 }
 
 impl MemDevice {
-    ghost use Rattle.srv_edge.specs.Recorded.{TimeElapses, first_file, record_of, kinds_of, failing_calls};
+    ghost use Rattle.srv_edge.specs.Recorded.{CountsIn, KeepsCall, LeavesStill, failing_calls, first_file, kinds_of, record_of, seen_by, state_at};
 
     /// It takes no memory.
     pub fn new(alloc: Global, bytes: Vec<u8>, fail: Vec<u32>) -> MemDevice
-        ensures seen { ⟦<MemDevice as Device>⟧.seen result ≡ bytes.items }
+        ensures seen { seen_by result ≡ bytes.items }
         ensures first { first_file result ≡ bytes.items }
         ensures no_calls { record_of result ≡ [] }
         ensures fails { failing_calls result ≡ fail.items }
@@ -50,7 +49,7 @@ impl MemDevice {
             },
             calls: Vec::new(alloc),
             fail,
-            faults: 0,
+            faults: FaultCount::NONE,
         }
     }
 
@@ -69,13 +68,15 @@ impl MemDevice {
     }
 
     /// One of the images after so many calls: each range that is not settled holds the fill, also
-    /// between an old end and a write behind it, and the heads that are not settled are all there or
-    /// none.
+    /// between an old end and a write behind it, and the heads that are not settled are all there
+    /// or none.
     pub fn image(&self, calls: u32, fill: u8, last_super: bool) -> Result<Vec<u8>, AllocError>
         requires { calls ≤ length (record_of self.now) }
-        ensures text { IfOk result (λ v. v.items ≡ image_of (state_of (first_file self.now) (take calls (record_of self.now))) fill last_super) }
-        ensures image { IfOk result (λ v. IsImageOf (state_of (first_file self.now) (take calls (record_of self.now))) v.items) }
-        ensures left { IfOk result (λ v. ⟦<MemDevice as Device>⟧.left_since self.now calls v.items) }
+        ensures text { IfOk result
+            (λ v. v.items ≡ image_of (state_at self.now calls) fill last_super) }
+        ensures image { IfOk result (λ v. IsImageOf (state_at self.now calls) v.items) }
+        ensures left { IfOk result
+            (λ v. ⟦<MemDevice as Device>⟧.left_since self.now calls v.items) }
     {
         let calls = &self.calls[..calls as usize];
         replayed(self.alloc, &self.file.first, calls, fill, last_super)
@@ -88,19 +89,6 @@ impl MemDevice {
         self.fail.contains(&(self.calls.len() as u32))
     }
 
-    // Counts a fault.
-    fn fault(&mut self) -> Failed
-        ensures file { self.new.file ≡ self.old.file }
-        ensures calls { self.new.calls ≡ self.old.calls }
-        ensures fail { self.new.fail ≡ self.old.fail }
-        ensures counted { self.new.faults ≡ min (self.old.faults + 1) last_count }
-        ensures never_falls { self.old.faults ≤ self.new.faults }
-    {
-        let faults = self.faults;
-        self.faults = faults.saturating_add(1);
-        Failed
-    }
-
     // A call that is to be kept, and room for it. Where there is none it counts a fault.
     fn prepare(&mut self, kind: CallKind, bytes: &[u8], done: bool) -> Result<Call, Failed>
         requires { place_of kind + length bytes.now ≤ 2 ^ 35 }
@@ -111,16 +99,14 @@ impl MemDevice {
         ensures room { OnOk result (vec_len self.new.calls < vec_capacity self.new.calls) }
         ensures calls { self.new.calls.items ≡ self.old.calls.items }
         ensures file { self.new.file ≡ self.old.file }
-        ensures fail { self.new.fail ≡ self.old.fail }
-        ensures counted { Counts self.old.faults result self.new.faults }
-        ensures never_falls { self.old.faults ≤ self.new.faults }
+        ensures counted { CountsIn self.old result self.new }
     {
         if self.calls.len() == MOST_CALLS || self.calls.reserve(1).is_err() {
-            return Err(self.fault());
+            return Err(self.faults.add());
         }
         match Call::new(self.alloc, kind, bytes, done) {
             Ok(call) => Ok(call),
-            Err(_) => Err(self.fault()),
+            Err(_) => Err(self.faults.add()),
         }
     }
 
@@ -128,27 +114,21 @@ impl MemDevice {
     fn keep(&mut self, kind: CallKind, bytes: &[u8], done: bool) -> Result<(), Failed>
         requires end { place_of kind + length bytes.now ≤ 2 ^ 35 }
         requires leaves { (s : State) → (after_kind s kind bytes.now done).seen ≡ s.seen }
-        ensures kept { KeepsAs done self.old.calls.items kind bytes.now result self.new.calls.items }
+        ensures kept { KeepsAs done self.old.calls.items kind bytes.now result
+            self.new.calls.items }
         ensures file { self.new.file ≡ self.old.file }
-        ensures fail { self.new.fail ≡ self.old.fail }
-        ensures counted { Counts self.old.faults result self.new.faults }
-        ensures never_falls { self.old.faults ≤ self.new.faults }
+        ensures counted { CountsIn self.old result self.new }
     {
         let call = self.prepare(kind, bytes, done)?;
         self.calls.push(call).unwrap();
-        if done { Ok(()) } else { Err(self.fault()) }
+        if done { Ok(()) } else { Err(self.faults.add()) }
     }
 
     // Keeps a call that is no write. It fails where it is to.
     fn note(&mut self, kind: CallKind) -> Result<(), Failed>
         requires { IsStill kind }
-        ensures kept { Keeps self.old.fail.items self.old.calls.items kind [] result self.new.calls.items }
-        ensures file { self.new.file ≡ self.old.file }
-        ensures fail { self.new.fail ≡ self.old.fail }
-        ensures counted { Counts self.old.faults result self.new.faults }
-        ensures never_falls { self.old.faults ≤ self.new.faults }
-        ensures among { Among (⟦<MemDevice as Device>⟧.may_leave self.old) (⟦<MemDevice as Device>⟧.may_leave self.new) }
-        ensures time { TimeElapses self.old self.new }
+        ensures kept { KeepsCall self.old kind [] result self.new }
+        ensures still { LeavesStill self.old self.new }
     {
         let done = !self.is_to_fail();
         self.keep(kind, &[], done)
@@ -159,19 +139,15 @@ impl MemDevice {
         requires change { IsChange kind }
         requires place { at ≡ place_of kind }
         requires end { at + length bytes.now ≤ 2 ^ 35 }
-        ensures kept { Keeps self.old.fail.items self.old.calls.items kind bytes.now result self.new.calls.items }
-        ensures written { OnOk result (shown self.new.file ≡ spliced (shown self.old.file) at bytes.now) }
-        ensures first { self.new.file.first ≡ self.old.file.first }
-        ensures fail { self.new.fail ≡ self.old.fail }
-        ensures counted { Counts self.old.faults result self.new.faults }
-        ensures never_falls { self.old.faults ≤ self.new.faults }
+        ensures kept { KeepsCall self.old kind bytes.now result self.new }
+        ensures written { OnOk result (seen_by self.new ≡ spliced (seen_by self.old) at bytes.now) }
     {
         if self.is_to_fail() {
             return self.keep(kind, bytes, false);
         }
         let call = self.prepare(kind, bytes, true)?;
         if self.file.write(self.alloc, at, bytes).is_err() {
-            return Err(self.fault());
+            return Err(self.faults.add());
         }
         self.calls.push(call).unwrap();
         Ok(())
@@ -180,54 +156,43 @@ impl MemDevice {
 
 impl Device for MemDevice {
     ghost use Rattle.srv_edge.specs.Past.{seen_image, left_now, left_only};
-    ghost use Rattle.srv_edge.specs.Recorded.{TimeElapses, first_file, record_of, failing_calls};
+    ghost use Rattle.srv_edge.specs.Recorded.{KeepsCall, LeavesStill, TimeElapses, images_of, seen_by};
 
     ghost tells = { true };
 
-    ghost seen = { λ d. shown d.file };
+    ghost seen = { seen_by };
 
-    ghost may_leave = { λ d c. IsImageOf (state_of d.file.first.items d.calls.items) c };
+    ghost may_leave = { images_of };
 
     ghost moment = { λ d. length d.calls.items };
 
     ghost left_since = { λ d t c. LeftSince d.file.first.items d.calls.items t c };
 
-    ghost fault_count = { λ d. d.faults };
+    ghost fault_count = { λ d. d.faults.count };
 
     ghost told = { λ d c image. refl };
 
-    ghost seen_is_one = { λ d tells. seen_image d.file.first.items d.calls.items (shown d.file) d.shows };
+    ghost seen_is_one = { λ d tells. seen_image d.file.first.items d.calls.items (shown d.file)
+        d.shows };
 
     ghost counts_now = { λ d t c le image. left_now d.file.first.items d.calls.items t c le image };
 
     ghost only_now = { λ d c left. left_only d.file.first.items d.calls.items c left };
 
     fn size(&mut self) -> Result<u64, Failed>
-        ensures kept { Keeps (failing_calls self.old) (record_of self.old) CallKind.Size [] result (record_of self.new) }
-        ensures first { first_file self.new ≡ first_file self.old }
-        ensures fails { failing_calls self.new ≡ failing_calls self.old }
-        ensures counted { Counts (⟦<MemDevice as Device>⟧.fault_count self.old) result (⟦<MemDevice as Device>⟧.fault_count self.new) }
-        ensures size { IfOk result (λ n. n ≡ length (⟦<MemDevice as Device>⟧.seen self.old)) }
-        ensures seen { ⟦<MemDevice as Device>⟧.seen self.new ≡ ⟦<MemDevice as Device>⟧.seen self.old }
-        ensures crash { Among (⟦<MemDevice as Device>⟧.may_leave self.old) (⟦<MemDevice as Device>⟧.may_leave self.new) }
-        ensures time { TimeElapses self.old self.new }
-        ensures never_falls { ⟦<MemDevice as Device>⟧.fault_count self.old ≤ ⟦<MemDevice as Device>⟧.fault_count self.new }
+        ensures kept { KeepsCall self.old CallKind.Size [] result self.new }
+        ensures size { IfOk result (λ n. n ≡ length (seen_by self.old)) }
+        ensures still { LeavesStill self.old self.new }
     {
         self.note(CallKind::Size)?;
         Ok(self.file.bytes().len() as u64)
     }
 
     fn read(&mut self, at: u64, out: &mut [u8]) -> Result<(), Failed>
-        requires within { at + length out.old ≤ length (⟦<MemDevice as Device>⟧.seen self.old) }
-        ensures kept { Keeps (failing_calls self.old) (record_of self.old) (CallKind.Read at) [] result (record_of self.new) }
-        ensures first { first_file self.new ≡ first_file self.old }
-        ensures fails { failing_calls self.new ≡ failing_calls self.old }
-        ensures counted { Counts (⟦<MemDevice as Device>⟧.fault_count self.old) result (⟦<MemDevice as Device>⟧.fault_count self.new) }
-        ensures bytes { OnOk result (out.new ≡ take (length out.old) (drop at (⟦<MemDevice as Device>⟧.seen self.old))) }
-        ensures seen { ⟦<MemDevice as Device>⟧.seen self.new ≡ ⟦<MemDevice as Device>⟧.seen self.old }
-        ensures crash { Among (⟦<MemDevice as Device>⟧.may_leave self.old) (⟦<MemDevice as Device>⟧.may_leave self.new) }
-        ensures time { TimeElapses self.old self.new }
-        ensures never_falls { ⟦<MemDevice as Device>⟧.fault_count self.old ≤ ⟦<MemDevice as Device>⟧.fault_count self.new }
+        requires within { at + length out.old ≤ length (seen_by self.old) }
+        ensures kept { KeepsCall self.old (CallKind.Read at) [] result self.new }
+        ensures bytes { OnOk result (out.new ≡ take (length out.old) (drop at (seen_by self.old))) }
+        ensures still { LeavesStill self.old self.new }
     {
         self.note(CallKind::Read { at })?;
         let from = at as usize;
@@ -237,46 +202,33 @@ impl Device for MemDevice {
 
     fn write(&mut self, at: u64, bytes: &[u8]) -> Result<(), Failed>
         requires end { at + length bytes.now ≤ 2 ^ 35 }
-        ensures kept { Keeps (failing_calls self.old) (record_of self.old) (CallKind.Write at) bytes.now result (record_of self.new) }
-        ensures first { first_file self.new ≡ first_file self.old }
-        ensures fails { failing_calls self.new ≡ failing_calls self.old }
-        ensures counted { Counts (⟦<MemDevice as Device>⟧.fault_count self.old) result (⟦<MemDevice as Device>⟧.fault_count self.new) }
-        ensures written { OnOk result (⟦<MemDevice as Device>⟧.seen self.new ≡ spliced (⟦<MemDevice as Device>⟧.seen self.old) at bytes.now) }
-        ensures crash { Follows (Torn at (length bytes.now)) (⟦<MemDevice as Device>⟧.may_leave self.old) (⟦<MemDevice as Device>⟧.may_leave self.new) }
+        ensures kept { KeepsCall self.old (CallKind.Write at) bytes.now result self.new }
+        ensures written { OnOk result (seen_by self.new ≡ spliced (seen_by self.old) at bytes.now) }
+        ensures crash { Follows (Torn at (length bytes.now)) (images_of self.old)
+            (images_of self.new) }
         ensures time { TimeElapses self.old self.new }
-        ensures never_falls { ⟦<MemDevice as Device>⟧.fault_count self.old ≤ ⟦<MemDevice as Device>⟧.fault_count self.new }
     {
         self.change(CallKind::Write { at }, at as usize, bytes)
     }
 
     fn write_super(&mut self, bytes: &[u8; 56]) -> Result<(), Failed>
-        ensures kept { Keeps (failing_calls self.old) (record_of self.old) CallKind.Super bytes.now result (record_of self.new) }
-        ensures first { first_file self.new ≡ first_file self.old }
-        ensures fails { failing_calls self.new ≡ failing_calls self.old }
-        ensures counted { Counts (⟦<MemDevice as Device>⟧.fault_count self.old) result (⟦<MemDevice as Device>⟧.fault_count self.new) }
-        ensures written { OnOk result (⟦<MemDevice as Device>⟧.seen self.new ≡ headed (⟦<MemDevice as Device>⟧.seen self.old) bytes.now) }
-        ensures crash { Follows (Whole bytes.now) (⟦<MemDevice as Device>⟧.may_leave self.old) (⟦<MemDevice as Device>⟧.may_leave self.new) }
+        ensures kept { KeepsCall self.old CallKind.Super bytes.now result self.new }
+        ensures written { OnOk result (seen_by self.new ≡ headed (seen_by self.old) bytes.now) }
+        ensures crash { Follows (Whole bytes.now) (images_of self.old) (images_of self.new) }
         ensures time { TimeElapses self.old self.new }
-        ensures never_falls { ⟦<MemDevice as Device>⟧.fault_count self.old ≤ ⟦<MemDevice as Device>⟧.fault_count self.new }
     {
         self.change(CallKind::Super, 0, bytes)
     }
 
     fn sync(&mut self) -> Result<(), Failed>
-        ensures kept { Keeps (failing_calls self.old) (record_of self.old) CallKind.Sync [] result (record_of self.new) }
-        ensures first { first_file self.new ≡ first_file self.old }
-        ensures fails { failing_calls self.new ≡ failing_calls self.old }
-        ensures counted { Counts (⟦<MemDevice as Device>⟧.fault_count self.old) result (⟦<MemDevice as Device>⟧.fault_count self.new) }
-        ensures durable { OnOk result (Only (⟦<MemDevice as Device>⟧.seen self.old) (⟦<MemDevice as Device>⟧.may_leave self.new)) }
-        ensures seen { ⟦<MemDevice as Device>⟧.seen self.new ≡ ⟦<MemDevice as Device>⟧.seen self.old }
-        ensures crash { Among (⟦<MemDevice as Device>⟧.may_leave self.old) (⟦<MemDevice as Device>⟧.may_leave self.new) }
-        ensures time { TimeElapses self.old self.new }
-        ensures never_falls { ⟦<MemDevice as Device>⟧.fault_count self.old ≤ ⟦<MemDevice as Device>⟧.fault_count self.new }
+        ensures kept { KeepsCall self.old CallKind.Sync [] result self.new }
+        ensures durable { OnOk result (Only (seen_by self.old) (images_of self.new)) }
+        ensures still { LeavesStill self.old self.new }
     {
         self.note(CallKind::Sync)
     }
 
     fn faults(&self) -> u64 {
-        self.faults
+        self.faults.count
     }
 }

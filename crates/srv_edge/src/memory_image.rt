@@ -28,7 +28,8 @@ impl Replay {
 
     // One call more.
     fn step(&mut self, call: &Call, fill: u8, last_super: bool) -> Result<(), AllocError>
-        ensures { (s : State) → ShowsState self.old s fill last_super → OnOk result (ShowsState self.new (after_call s call.now) fill last_super) }
+        ensures { (s : State) → ShowsState self.old s fill last_super
+            → OnOk result (ShowsState self.new (after_call s call.now) fill last_super) }
     {
         match call.kind {
             CallKind::Size | CallKind::Read { .. } => Ok(()),
@@ -40,8 +41,12 @@ impl Replay {
 
     fn write(&mut self, at: usize, bytes: &[u8], done: bool, fill: u8) -> Result<(), AllocError>
         requires { at + length bytes.now ≤ 2 ^ 35 }
-        ensures seen { OnOk result (self.new.seen.items ≡ (if done then spliced self.old.seen.items at bytes.now else self.old.seen.items)) }
-        ensures image { OnOk result (self.new.image.items ≡ spliced_with fill self.old.image.items at (replicate (length bytes.now) fill)) }
+        ensures seen { OnOk result
+            (self.new.seen.items
+            ≡ (if done then spliced self.old.seen.items at bytes.now else self.old.seen.items)) }
+        ensures image { OnOk result
+            (self.new.image.items
+            ≡ spliced_with fill self.old.image.items at (replicate (length bytes.now) fill)) }
     {
         if done {
             overwrite(&mut self.seen, at, bytes)?;
@@ -51,8 +56,13 @@ impl Replay {
 
     fn head(&mut self, bytes: &[u8], done: bool, last_super: bool) -> Result<(), AllocError>
         requires { length bytes.now ≤ 2 ^ 35 }
-        ensures seen { OnOk result (self.new.seen.items ≡ (if done then headed self.old.seen.items bytes.now else self.old.seen.items)) }
-        ensures image { OnOk result (self.new.image.items ≡ (if last_super then headed self.old.image.items bytes.now else self.old.image.items)) }
+        ensures seen { OnOk result
+            (self.new.seen.items
+            ≡ (if done then headed self.old.seen.items bytes.now else self.old.seen.items)) }
+        ensures image { OnOk result
+            (self.new.image.items
+            ≡ (if last_super then headed self.old.image.items bytes.now else
+            self.old.image.items)) }
     {
         put_head(&mut self.seen, bytes, done)?;
         put_head(&mut self.image, bytes, last_super)
@@ -60,7 +70,9 @@ impl Replay {
 
     fn sync(&mut self, done: bool) -> Result<(), AllocError>
         ensures seen { self.new.seen.items ≡ self.old.seen.items }
-        ensures image { OnOk result (self.new.image.items ≡ (if done then self.old.seen.items else self.old.image.items)) }
+        ensures image { OnOk result
+            (self.new.image.items
+            ≡ (if done then self.old.seen.items else self.old.image.items)) }
     {
         if done {
             self.image.clear();
@@ -73,7 +85,8 @@ impl Replay {
 // Puts a head over the first bytes of a file, if it is to be there.
 fn put_head(file: &mut Vec<u8>, head: &[u8], there: bool) -> Result<(), AllocError>
     requires { length head.now ≤ 2 ^ 35 }
-    ensures { OnOk result (file.new.items ≡ (if there then headed file.old.items head.now else file.old.items)) }
+    ensures { OnOk result
+        (file.new.items ≡ (if there then headed file.old.items head.now else file.old.items)) }
 {
     if there {
         overwrite(file, 0, head)?;

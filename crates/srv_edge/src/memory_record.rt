@@ -39,8 +39,8 @@ impl Call {
     }
 }
 
-/// A file as it was at first and as it is. It is copied at the first write, so that making one takes
-/// no memory.
+/// A file as it was at first and as it is. It is copied at the first write, so that making one
+/// takes no memory.
 #[derive(Drop)]
 pub struct Contents {
     pub first: Vec<u8>,

@@ -1,5 +1,5 @@
-ghost use Rattle.std.specs.Prelude.{◌≡◌, ◌≤◌, ◌<◌, ◌+◌, ◌++◌, ◌↔◌, [], length, take, drop, IsTrue, IfOk, OnErr};
-ghost use Rattle.srv_edge.specs.Count.{Rose};
+ghost use Rattle.std.specs.Prelude.{◌≡◌, ◌≤◌, ◌<◌, ◌+◌, ◌++◌, ◌↔◌, [], length, take, drop, IsTrue, IfOk, IsErr};
+ghost use Rattle.srv_edge.specs.Exchange.{CallsSource};
 ghost use Rattle.srv_edge.specs.Stream.{Fills};
 
 use crate::failed::Failed;
@@ -55,7 +55,8 @@ impl Piece {
     /// Overwrites the bytes from a place on.
     pub fn set(&mut self, at: usize, bytes: &[u8])
         requires { at + length bytes.now ≤ length self.old }
-        ensures { self.new ≡ take at self.old ++ bytes.now ++ drop (at + length bytes.now) self.old }
+        ensures { self.new
+            ≡ take at self.old ++ bytes.now ++ drop (at + length bytes.now) self.old }
     {
         self.all[at..at + bytes.len()].copy_from_slice(bytes);
     }
@@ -84,11 +85,9 @@ impl Piece {
         requires some { 0 < most }
         requires room { length self.old + most ≤ PIECE_BYTES }
         ensures bound { IfOk result (λ n. n ≤ most) }
-        ensures fills { Fills S.tells result self.old self.new (S.given source.old) (S.left source.old) (S.given source.new) (S.left source.new) }
-        ensures beside { S.beside source.new ≡ S.beside source.old }
-        ensures loans { S.loans source.new ≡ S.loans source.old }
-        ensures never_falls { S.faults source.old ≤ S.faults source.new }
-        ensures failed { OnErr result (Rose (S.faults source.old) (S.faults source.new)) }
+        ensures fills { Fills S.tells result self.old self.new
+            (S.given source.old) (S.left source.old) (S.given source.new) (S.left source.new) }
+        ensures calls { CallsSource S.Source (IsErr result) source.old source.new }
     {
         let end = self.len + most;
         let n = source.take(&mut self.all[self.len..end])?;

@@ -3,7 +3,8 @@ ghost use Rattle.srv_edge.specs.Disk.{spliced, spliced_with};
 
 use std::alloc::AllocError;
 
-// Writes over what is there, and past the end, with zeros between. Where there is no memory nothing is written.
+// Writes over what is there, and past the end, with zeros between. Where there is no memory nothing
+// is written.
 #[tactic(auto, using(crate::proofs::Padded::written))]
 pub fn overwrite(file: &mut Vec<u8>, at: usize, bytes: &[u8]) -> Result<(), AllocError>
     requires { at + length bytes.now ≤ 2 ^ 35 }
@@ -21,7 +22,8 @@ pub fn overwrite(file: &mut Vec<u8>, at: usize, bytes: &[u8]) -> Result<(), Allo
 #[tactic(auto, using(crate::proofs::Padded::filled))]
 pub fn fill_range(file: &mut Vec<u8>, at: usize, n: usize, fill: u8) -> Result<(), AllocError>
     requires { at + n ≤ 2 ^ 35 }
-    ensures { OnOk result (file.new.items ≡ spliced_with fill file.old.items at (replicate n fill)) }
+    ensures { OnOk result
+        (file.new.items ≡ spliced_with fill file.old.items at (replicate n fill)) }
 {
     lengthen(file, at + n, fill)?;
     fill_within(file, at, n, fill);
@@ -30,7 +32,8 @@ pub fn fill_range(file: &mut Vec<u8>, at: usize, n: usize, fill: u8) -> Result<(
 
 // Makes the file so long at least, with the fill.
 fn lengthen(file: &mut Vec<u8>, end: usize, fill: u8) -> Result<(), AllocError>
-    ensures ok { OnOk result (file.new.items ≡ file.old.items ++ replicate (end - length file.old.items) fill) }
+    ensures ok { OnOk result
+        (file.new.items ≡ file.old.items ++ replicate (end - length file.old.items) fill) }
     ensures err { OnErr result (file.new.items ≡ file.old.items) }
     ensures full { OnErr result (vec_capacity file.old < end) }
     ensures room { vec_capacity file.old ≤ vec_capacity file.new }
@@ -44,7 +47,8 @@ fn lengthen(file: &mut Vec<u8>, end: usize, fill: u8) -> Result<(), AllocError>
 // Writes over what is there.
 fn put_within(file: &mut Vec<u8>, at: usize, bytes: &[u8])
     requires { at + length bytes.now ≤ vec_len file.old }
-    ensures bytes { file.new.items ≡ take at file.old.items ++ bytes.now ++ drop (at + length bytes.now) file.old.items }
+    ensures bytes { file.new.items
+        ≡ take at file.old.items ++ bytes.now ++ drop (at + length bytes.now) file.old.items }
     ensures room { vec_capacity file.new ≡ vec_capacity file.old }
 {
     file[at..at + bytes.len()].copy_from_slice(bytes);
@@ -53,7 +57,8 @@ fn put_within(file: &mut Vec<u8>, at: usize, bytes: &[u8])
 // Writes the same byte over what is there.
 fn fill_within(file: &mut Vec<u8>, at: usize, n: usize, fill: u8)
     requires { at + n ≤ vec_len file.old }
-    ensures { file.new.items ≡ take at file.old.items ++ replicate n fill ++ drop (at + n) file.old.items }
+    ensures { file.new.items
+        ≡ take at file.old.items ++ replicate n fill ++ drop (at + n) file.old.items }
 {
     file[at..at + n].fill(fill);
 }

@@ -76,7 +76,8 @@ impl RecordList {
 fn record_at<'a>(bytes: &'a [u8], ends: &[u32], position: usize) -> Option<&'a [u8]>
     requires { AreEnds bytes.now ends.now }
     ensures some { IsSome result ↔ (position < length ends.now) }
-    ensures record { IfSome result (λ r. slice_get (cut_at bytes.now 0 ends.now) position ≡ Some r.now) }
+    ensures record { IfSome result
+        (λ r. slice_get (cut_at bytes.now 0 ends.now) position ≡ Some r.now) }
 {
     if position >= ends.len() {
         return None;
@@ -91,7 +92,8 @@ fn place_of(bytes: &[u8], ends: &[u32], position: usize) -> (usize, usize)
     requires there { position < length ends.now }
     ensures order { result.0 ≤ result.1 }
     ensures within { result.1 ≤ length bytes.now }
-    ensures cut { slice_get (cut_at bytes.now 0 ends.now) position ≡ Some (take (result.1 - result.0) (drop result.0 bytes.now)) }
+    ensures cut { slice_get (cut_at bytes.now 0 ends.now) position
+        ≡ Some (take (result.1 - result.0) (drop result.0 bytes.now)) }
 {
     let end = ends[position] as usize;
     (start_at(ends, position), end)

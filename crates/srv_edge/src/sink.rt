@@ -1,6 +1,6 @@
-ghost use Rattle.std.specs.Prelude.{◌≡◌, ◌≤◌, ◌<◌, ◌^◌, ℕ, Bool, false, IsTrue, List, [], length, IfOk, OnErr, MatchResult};
-ghost use Rattle.srv_edge.specs.Count.{Rose};
-ghost use Rattle.srv_edge.specs.Stream.{Gives, Told, Went, WentInPart, nothing_told};
+ghost use Rattle.std.specs.Prelude.{◌≡◌, ◌≤◌, ◌<◌, ◌^◌, ℕ, Bool, false, IsTrue, List, [], length, IfOk, IsErr};
+ghost use Rattle.srv_edge.specs.Count.{HasCause};
+ghost use Rattle.srv_edge.specs.Stream.{Gives, Told, nothing_told};
 
 use crate::failed::Failed;
 
@@ -21,7 +21,8 @@ pub trait Sink {
     /// What it tells beside its being a sink. A give changes none of it.
     ghost beside: { Self → Told } = { λ _. nothing_told };
 
-    /// Takes the front of the bytes, and answers how many. A sink that takes nothing counts a fault.
+    /// Takes the front of the bytes, and answers how many. A sink that takes nothing counts a
+    /// fault.
     fn give(&mut self, bytes: &[u8]) -> Result<usize, Failed>
         requires { 0 < length bytes.now }
         ensures least { IfOk result (λ n. 0 < n) }
@@ -29,22 +30,6 @@ pub trait Sink {
         ensures bytes { IsTrue tells → Gives (taken self.old) result bytes.now (taken self.new) }
         ensures beside { beside self.new ≡ beside self.old }
         ensures loans { loans self.new ≡ loans self.old }
-        ensures never_falls { faults self.old ≤ faults self.new }
         ensures below { faults self.new < 2 ^ 64 }
-        ensures failed { OnErr result (Rose (faults self.old) (faults self.new)) };
-}
-
-/// Gives all the bytes, in as many calls as it takes, up to a failure.
-pub fn give_all<K: Sink>(sink: &mut K, bytes: &[u8]) -> Result<(), Failed>
-    ensures went { MatchResult result (λ _. Went K.tells bytes.now (K.taken sink.old) (K.taken sink.new)) (λ _. WentInPart K.tells bytes.now (K.taken sink.old) (K.taken sink.new)) }
-    ensures beside { K.beside sink.new ≡ K.beside sink.old }
-    ensures loans { K.loans sink.new ≡ K.loans sink.old }
-    ensures never_falls { K.faults sink.old ≤ K.faults sink.new }
-    ensures failed { OnErr result (Rose (K.faults sink.old) (K.faults sink.new)) }
-{
-    let mut sent = 0;
-    while sent < bytes.len() {
-        sent += sink.give(&bytes[sent..])?;
-    }
-    Ok(())
+        ensures cause { HasCause (IsErr result) (faults self.old) (faults self.new) };
 }

@@ -1,5 +1,5 @@
-ghost use Rattle.std.specs.Prelude.{◌≡◌, ◌≤◌, ◌<◌, ◌^◌, ℕ, Bool, false, IsTrue, List, [], length, IfOk, OnErr};
-ghost use Rattle.srv_edge.specs.Count.{Rose};
+ghost use Rattle.std.specs.Prelude.{◌≡◌, ◌≤◌, ◌<◌, ◌^◌, ℕ, Bool, false, IsTrue, List, [], length, IfOk, IsErr};
+ghost use Rattle.srv_edge.specs.Count.{HasCause};
 ghost use Rattle.srv_edge.specs.Stream.{Takes, Told, nothing_told};
 
 use crate::failed::Failed;
@@ -28,10 +28,11 @@ pub trait Source {
     fn take(&mut self, into: &mut [u8]) -> Result<usize, Failed>
         requires { 0 < length into.old }
         ensures bound { IfOk result (λ n. n ≤ length into.old) }
-        ensures bytes { IsTrue tells → Takes (given self.old) (left self.old) result into.new (given self.new) (left self.new) }
+        ensures bytes { IsTrue tells
+            → Takes (given self.old) (left self.old) result into.new (given self.new)
+            (left self.new) }
         ensures beside { beside self.new ≡ beside self.old }
         ensures loans { loans self.new ≡ loans self.old }
-        ensures never_falls { faults self.old ≤ faults self.new }
         ensures below { faults self.new < 2 ^ 64 }
-        ensures failed { OnErr result (Rose (faults self.old) (faults self.new)) };
+        ensures cause { HasCause (IsErr result) (faults self.old) (faults self.new) };
 }

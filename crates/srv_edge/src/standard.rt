@@ -1,66 +1,81 @@
-ghost use Rattle.std.specs.Prelude.{◌≡◌};
+ghost use Rattle.std.specs.Prelude.{◌≡◌, ◌≤◌, ◌<◌, length, IfOk, IsErr};
+ghost use Rattle.srv_edge.specs.Count.{Counts, HasCause};
 
 use crate::failed::Failed;
+use crate::faults::FaultCount;
 use crate::sink::Sink;
 use crate::source::Source;
 use std::io::{Read, Write};
 
-/// A reader of the system, such as standard input, as a source. It tells no content.
+/// A reader of the system, such as standard input, as a source. It tells no content. Its count
+/// rises by one at each error of the system, and at nothing else.
 #[derive(Drop)]
 pub struct StdIn<R> {
     input: R,
-    faults: u64,
+    faults: FaultCount,
 }
 
 impl<R: Read> StdIn<R> {
     pub fn new(input: R) -> StdIn<R>
         ensures { ⟦<StdIn<R> as Source>⟧.faults result ≡ 0 }
     {
-        StdIn { input, faults: 0 }
-    }
-}
-
-impl<R: Read> Source for StdIn<R> {
-    ghost faults = { λ s. s.faults };
-
-    fn take(&mut self, into: &mut [u8]) -> Result<usize, Failed> {
-        let faults = self.faults;
-        match self.input.read(into) {
-            Ok(n) => Ok(n),
-            Err(_) => {
-                self.faults = faults.saturating_add(1);
-                Err(Failed)
-            }
+        StdIn {
+            input,
+            faults: FaultCount::NONE,
         }
     }
 }
 
-/// A writer of the system, such as standard output, as a sink. It tells no content.
+impl<R: Read> Source for StdIn<R> {
+    ghost use Rattle.srv_edge.specs.Standard.{faults_in};
+
+    ghost faults = { λ s. s.faults.count };
+
+    fn take(&mut self, into: &mut [u8]) -> Result<usize, Failed>
+        ensures bound { IfOk result (λ n. n ≤ length into.old) }
+        ensures counted { Counts (faults_in self.old) result (faults_in self.new) }
+        ensures cause { HasCause (IsErr result) (faults_in self.old) (faults_in self.new) }
+    {
+        match self.input.read(into) {
+            Ok(n) => Ok(n),
+            Err(_) => Err(self.faults.add()),
+        }
+    }
+}
+
+/// A writer of the system, such as standard output, as a sink. It tells no content. Its count rises
+/// by one at each error of the system and where the system takes nothing, and at nothing else.
 #[derive(Drop)]
 pub struct StdOut<W> {
     output: W,
-    faults: u64,
+    faults: FaultCount,
 }
 
 impl<W: Write> StdOut<W> {
     pub fn new(output: W) -> StdOut<W>
         ensures { ⟦<StdOut<W> as Sink>⟧.faults result ≡ 0 }
     {
-        StdOut { output, faults: 0 }
+        StdOut {
+            output,
+            faults: FaultCount::NONE,
+        }
     }
 }
 
 impl<W: Write> Sink for StdOut<W> {
-    ghost faults = { λ s. s.faults };
+    ghost use Rattle.srv_edge.specs.Standard.{faults_out};
 
-    fn give(&mut self, bytes: &[u8]) -> Result<usize, Failed> {
-        let faults = self.faults;
+    ghost faults = { λ s. s.faults.count };
+
+    fn give(&mut self, bytes: &[u8]) -> Result<usize, Failed>
+        ensures least { IfOk result (λ n. 0 < n) }
+        ensures bound { IfOk result (λ n. n ≤ length bytes.now) }
+        ensures counted { Counts (faults_out self.old) result (faults_out self.new) }
+        ensures cause { HasCause (IsErr result) (faults_out self.old) (faults_out self.new) }
+    {
         match self.output.write(bytes) {
             Ok(n) if 0 < n => Ok(n),
-            _ => {
-                self.faults = faults.saturating_add(1);
-                Err(Failed)
-            }
+            _ => Err(self.faults.add()),
         }
     }
 }

@@ -1,10 +1,9 @@
-ghost use Rattle.std.specs.Prelude.{◌≡◌, ◌≤◌, ◌+◌, ◌^◌, ◌↔◌, length, take, drop, min, vec_len, vec_capacity, IsOk, IfOk, OnOk, MatchResult};
-ghost use Rattle.srv_edge.specs.Count.{last_count};
+ghost use Rattle.std.specs.Prelude.{◌≡◌, ◌≤◌, ◌+◌, ◌^◌, ◌↔◌, length, take, drop, vec_len, vec_capacity, IsOk, IfOk, OnOk};
 ghost use Rattle.srv_edge.specs.Disk.{spliced, headed};
-ghost use Rattle.srv_edge.specs.Faults.{Counts};
 
 use crate::device::Device;
 use crate::failed::Failed;
+use crate::faults::FaultCount;
 use crate::range::overwrite;
 use std::alloc::{AllocError, Global};
 
@@ -16,13 +15,13 @@ use std::alloc::{AllocError, Global};
 pub struct StillDevice {
     bytes: Vec<u8>,
     room: usize,
-    faults: u64,
+    faults: FaultCount,
     ghost within: { vec_len bytes ≤ room },
     ghost ready: { room ≤ vec_capacity bytes },
 }
 
 impl StillDevice {
-    ghost use Rattle.srv_edge.specs.Still.{room_of, still_bytes};
+    ghost use Rattle.srv_edge.specs.Still.{CallsStill, Leaves, room_of, still_bytes};
 
     /// It takes the memory of its room first, and no more afterwards.
     pub fn new(alloc: Global, bytes: Vec<u8>, room: u32) -> Result<StillDevice, AllocError>
@@ -36,33 +35,20 @@ impl StillDevice {
         Ok(StillDevice {
             bytes: all,
             room: room as usize,
-            faults: 0,
+            faults: FaultCount::NONE,
         })
-    }
-
-    // Counts a fault.
-    fn fault(&mut self) -> Failed
-        ensures bytes { self.new.bytes ≡ self.old.bytes }
-        ensures room { self.new.room ≡ self.old.room }
-        ensures counted { self.new.faults ≡ min (self.old.faults + 1) last_count }
-        ensures never_falls { self.old.faults ≤ self.new.faults }
-    {
-        let faults = self.faults;
-        self.faults = faults.saturating_add(1);
-        Failed
     }
 
     // Puts the bytes in their place, where they fit.
     fn put(&mut self, at: usize, bytes: &[u8]) -> Result<(), Failed>
         requires { at + length bytes.now ≤ 2 ^ 35 }
         ensures fits { IsOk result ↔ (at + length bytes.now ≤ room_of self.old) }
-        ensures bytes { MatchResult result (λ _. still_bytes self.new ≡ spliced (still_bytes self.old) at bytes.now) (λ _. still_bytes self.new ≡ still_bytes self.old) }
-        ensures room { room_of self.new ≡ room_of self.old }
-        ensures counted { Counts (⟦<StillDevice as Device>⟧.fault_count self.old) result (⟦<StillDevice as Device>⟧.fault_count self.new) }
-        ensures never_falls { ⟦<StillDevice as Device>⟧.fault_count self.old ≤ ⟦<StillDevice as Device>⟧.fault_count self.new }
+        ensures bytes { Leaves result self.old (spliced (still_bytes self.old) at bytes.now)
+            self.new }
+        ensures call { CallsStill self.old result self.new }
     {
         if at + bytes.len() > self.room {
-            return Err(self.fault());
+            return Err(self.faults.add());
         }
         overwrite(&mut self.bytes, at, bytes).unwrap();
         Ok(())
@@ -70,9 +56,9 @@ impl StillDevice {
 }
 
 impl Device for StillDevice {
-    ghost use Rattle.srv_edge.specs.Still.{room_of, still_bytes};
+    ghost use Rattle.srv_edge.specs.Still.{CallsStill, Leaves, room_of, still_bytes};
 
-    ghost fault_count = { λ d. d.faults };
+    ghost fault_count = { λ d. d.faults.count };
 
     ghost told = { λ d c none. absurd none };
 
@@ -92,15 +78,14 @@ impl Device for StillDevice {
 
     fn read(&mut self, at: u64, out: &mut [u8]) -> Result<(), Failed>
         ensures fits { IsOk result ↔ (at + length out.old ≤ length (still_bytes self.old)) }
-        ensures out { OnOk result (out.new ≡ take (length out.old) (drop at (still_bytes self.old))) }
+        ensures out { OnOk result
+            (out.new ≡ take (length out.old) (drop at (still_bytes self.old))) }
         ensures bytes { still_bytes self.new ≡ still_bytes self.old }
-        ensures room { room_of self.new ≡ room_of self.old }
-        ensures counted { Counts (⟦<StillDevice as Device>⟧.fault_count self.old) result (⟦<StillDevice as Device>⟧.fault_count self.new) }
-        ensures never_falls { ⟦<StillDevice as Device>⟧.fault_count self.old ≤ ⟦<StillDevice as Device>⟧.fault_count self.new }
+        ensures call { CallsStill self.old result self.new }
     {
         let from = at as usize;
         if from > self.bytes.len() || out.len() > self.bytes.len() - from {
-            return Err(self.fault());
+            return Err(self.faults.add());
         }
         out.copy_from_slice(&self.bytes[from..from + out.len()]);
         Ok(())
@@ -109,20 +94,17 @@ impl Device for StillDevice {
     fn write(&mut self, at: u64, bytes: &[u8]) -> Result<(), Failed>
         requires end { at + length bytes.now ≤ 2 ^ 35 }
         ensures fits { IsOk result ↔ (at + length bytes.now ≤ room_of self.old) }
-        ensures bytes { MatchResult result (λ _. still_bytes self.new ≡ spliced (still_bytes self.old) at bytes.now) (λ _. still_bytes self.new ≡ still_bytes self.old) }
-        ensures room { room_of self.new ≡ room_of self.old }
-        ensures counted { Counts (⟦<StillDevice as Device>⟧.fault_count self.old) result (⟦<StillDevice as Device>⟧.fault_count self.new) }
-        ensures never_falls { ⟦<StillDevice as Device>⟧.fault_count self.old ≤ ⟦<StillDevice as Device>⟧.fault_count self.new }
+        ensures bytes { Leaves result self.old (spliced (still_bytes self.old) at bytes.now)
+            self.new }
+        ensures call { CallsStill self.old result self.new }
     {
         self.put(at as usize, bytes)
     }
 
     fn write_super(&mut self, bytes: &[u8; 56]) -> Result<(), Failed>
         ensures fits { IsOk result ↔ (56 ≤ room_of self.old) }
-        ensures bytes { MatchResult result (λ _. still_bytes self.new ≡ headed (still_bytes self.old) bytes.now) (λ _. still_bytes self.new ≡ still_bytes self.old) }
-        ensures room { room_of self.new ≡ room_of self.old }
-        ensures counted { Counts (⟦<StillDevice as Device>⟧.fault_count self.old) result (⟦<StillDevice as Device>⟧.fault_count self.new) }
-        ensures never_falls { ⟦<StillDevice as Device>⟧.fault_count self.old ≤ ⟦<StillDevice as Device>⟧.fault_count self.new }
+        ensures bytes { Leaves result self.old (headed (still_bytes self.old) bytes.now) self.new }
+        ensures call { CallsStill self.old result self.new }
     {
         self.put(0, bytes)
     }
@@ -135,6 +117,6 @@ impl Device for StillDevice {
     }
 
     fn faults(&self) -> u64 {
-        self.faults
+        self.faults.count
     }
 }

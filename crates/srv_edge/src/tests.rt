@@ -44,8 +44,9 @@ fn device_of(alloc: Global, fail: &[u32]) -> Result<MemDevice, AllocError> {
     Ok(MemDevice::new(alloc, file, fail.to_vec(alloc)?))
 }
 
-// What a crash may leave after each of the calls, of which three failed: the head where no head that
-// is not settled is there, the head where all are, and what is behind the head, with a ? for the fill.
+// What a crash may leave after each of the calls, of which three failed: the head where no head
+// that is not settled is there, the head where all are, and what is behind the head, with a ? for
+// the fill.
 const IMAGES: [(u8, u8, &[u8]); 13] = [
     (b'h', b'h', b"abcd"),
     (b'h', b'h', b"a??d"),

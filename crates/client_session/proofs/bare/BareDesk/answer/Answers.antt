@@ -1,8 +1,9 @@
 use Rattle.std.proofs.Common.{◌++◌, [], length, refl, sym, ap, ◌∙◌, inl, arith}
 use Rattle.leaf_grammar.specs.declared.grammar.Space.TheVariants.{Types, Items}
 use Rattle.srv_edge.specs.Frames.{frame_bytes, half_bytes, word_bytes}
+use Rattle.table_model.proofs.NoFault.{record_no_fault}
 use Rattle.client_session.specs.Tables.{Tables, index_reply}
-use Rattle.client_session.proofs.NoFault.{adds_item, adds_type, index_kind, index_no_fault, record_no_fault}
+use Rattle.client_session.proofs.NoFault.{adds_item, adds_type, index_kind, index_no_fault}
 use Rattle.client_session.proofs.bare.BareDesk.answer.Goals as goal
 
 pub returns-in-Hello-clause-reply : goal.returns-in-Hello-clause-reply

@@ -1,4 +1,4 @@
-use Rattle.std.proofs.Common.{◌≡◌, ◌++◌, [], ◌∷◌, true, not, ap, sym, ◌∙◌, arith}
+use Rattle.std.proofs.Common.{◌≡◌, ◌++◌, [], ◌∷◌, true, not, ap, sym, ◌∙◌, arith, rules}
 use Rattle.srv_edge.specs.Contents.{shown}
 use Rattle.srv_edge.specs.Disk.{spliced}
 use Rattle.srv_edge.proofs.Replaying.{adds_pushed, if_ok, on_ok, refused_seen, shows_changed}
@@ -27,4 +27,8 @@ returns-clause-kept c =
     let before = c.prepare.new.self.calls.items in
     let is : c.push.new.self.items ≡ before ++ c.in_ok-call.call ∷ [] = if_ok c.push.result _ _ _ (c.push.ensures.succeeds c.in_ok-call.ensures.room) c.push.ensures.items in
     let asked = ap not (sym c.is_to_fail.ensures ∙ c.if-is_to_fail.false) in
-    (adds_pushed c.args.self.now.calls.items before c.push.new.self.items c.in_ok-call.call c.args.kind c.args.bytes.now true c.prepare.ensures.calls is c.in_ok-call.ensures.kind c.in_ok-call.ensures.bytes c.in_ok-call.ensures.done, asked)
+    record {
+      kept = (adds_pushed c.args.self.now.calls.items before c.push.new.self.items c.in_ok-call.call c.args.kind c.args.bytes.now true c.prepare.ensures.calls is c.in_ok-call.ensures.kind c.in_ok-call.ensures.bytes c.in_ok-call.ensures.done, asked);
+      first = ap (λ v. v.items) c.write.ensures.first ∙ ap (λ f. f.first.items) c.prepare.ensures.file;
+      counted = search rules;
+    }

@@ -1,6 +1,7 @@
 use Rattle.std.proofs.Common.{◌≡◌, refl, ap, arith}
 use Rattle.srv_edge.specs.declared.memory_record.CallKind.{CallKind}
 use Rattle.srv_edge.specs.declared.memory_record.CallKind.TheVariants.{Size, Read, Write, Super, Sync}
+use Rattle.srv_edge.specs.Contents.{shown}
 use Rattle.srv_edge.specs.Kinds.{place_of, IsStill}
 use Rattle.srv_edge.specs.Past.{still_seen}
 use Rattle.srv_edge.proofs.Replaying.{kept_among, kept_time}
@@ -20,14 +21,13 @@ keep-requires-clause-end c = omega (arith, no_place c.args.kind c.requires)
 pub keep-requires-clause-leaves : goal.keep-requires-clause-leaves
 keep-requires-clause-leaves c = λ s. still_seen s c.args.kind _ _ c.requires
 
-pub returns-clause-among : goal.returns-clause-among
-returns-clause-among c =
+pub returns-clause-still : goal.returns-clause-still
+returns-clause-still c =
     let old = c.args.self.now in
     let new = c.keep.new.self in
-    kept_among _ old.file.first.items new.file.first.items old.calls.items new.calls.items c.args.kind _ c.keep.result (ap (λ f. f.first.items) c.keep.ensures.file) c.requires c.keep.ensures.kept
-
-pub returns-clause-time : goal.returns-clause-time
-returns-clause-time c =
-    let old = c.args.self.now in
-    let new = c.keep.new.self in
-    kept_time _ old.file.first.items new.file.first.items old.calls.items new.calls.items c.args.kind _ c.keep.result (ap (λ f. f.first.items) c.keep.ensures.file) c.keep.ensures.kept
+    let first = ap (λ f. f.first.items) c.keep.ensures.file in
+    record {
+      seen = ap shown c.keep.ensures.file;
+      crash = kept_among _ old.file.first.items new.file.first.items old.calls.items new.calls.items c.args.kind _ c.keep.result first c.requires c.keep.ensures.kept;
+      time = kept_time _ old.file.first.items new.file.first.items old.calls.items new.calls.items c.args.kind _ c.keep.result first c.keep.ensures.kept;
+    }

@@ -1,4 +1,3 @@
-use Rattle.std.proofs.Common.{ap}
 use Rattle.srv_edge.specs.declared.memory_record.CallKind.TheVariants.{Super}
 use Rattle.srv_edge.proofs.Replaying.{kept_follows, kept_time}
 use Rattle.srv_edge.proofs.memory_device.MemDeviceDevice.write_super.Goals as goal
@@ -7,10 +6,10 @@ pub returns-clause-crash : goal.returns-clause-crash
 returns-clause-crash c =
     let old = c.args.self.now in
     let new = c.change.new.self in
-    kept_follows _ old.file.first.items new.file.first.items old.calls.items new.calls.items Super c.args.bytes.now c.change.result (ap (λ v. v.items) c.change.ensures.first) tt c.change.ensures.kept
+    kept_follows _ old.file.first.items new.file.first.items old.calls.items new.calls.items Super c.args.bytes.now c.change.result c.change.ensures.kept.first tt c.change.ensures.kept.kept
 
 pub returns-clause-time : goal.returns-clause-time
 returns-clause-time c =
     let old = c.args.self.now in
     let new = c.change.new.self in
-    kept_time _ old.file.first.items new.file.first.items old.calls.items new.calls.items Super c.args.bytes.now c.change.result (ap (λ v. v.items) c.change.ensures.first) c.change.ensures.kept
+    kept_time _ old.file.first.items new.file.first.items old.calls.items new.calls.items Super c.args.bytes.now c.change.result c.change.ensures.kept.first c.change.ensures.kept.kept

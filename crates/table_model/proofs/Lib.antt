@@ -1,0 +1,5 @@
+pub mod Counting
+pub mod Searching
+pub mod Records
+pub mod Strings
+pub mod NoFault
