@@ -3,8 +3,8 @@
 ghost use Rattle.std.specs.Prelude.{◌≡◌, ◌≤◌, ◌<◌, ◌+◌, ◌*◌, ◌^◌, IsTrue, false, All, Ok, [], ◌∷◌, find, length, take, drop, IfOk, OnOk, IsErrOf};
 ghost use Rattle.std.specs.List.{flat_map};
 ghost use Rattle.std.specs.List.Sorted.{IsStrictlyIncreasing};
-ghost use Rattle.srv_edge.specs.Count.{Rose};
-ghost use Rattle.srv_edge.specs.Disk.{LeavesOnly};
+ghost use Rattle.srv_edge.specs.Count.{HasCause};
+ghost use Rattle.srv_edge.specs.Reading.{OnlyReads};
 ghost use Rattle.msf_blocks.specs.Blocks.{IsReserved, blocks_of_size};
 ghost use Rattle.msf_blocks.specs.Superblock.{IsSuper, superblock_text};
 ghost use Rattle.free_page_maps.specs.FreeBlocks.{is_free};
@@ -32,12 +32,9 @@ pub fn open_image<D: Device>(alloc: Global, device: &mut D, limit: u32) -> Resul
     ensures whole { IfOk result IsWhole }
     ensures limited { IfOk result (λ image. image.head.blocks ≤ limit) }
     ensures inside { IsTrue D.tells → IfOk result (λ image. image.head.blocks * image.head.block ≤ length (D.seen device.old)) }
-    ensures disk_fault { IsErrOf result OpenFault.DiskFault → Rose (D.fault_count device.old) (D.fault_count device.new) }
-    ensures seen { D.seen device.new ≡ D.seen device.old }
-    // A crash at any moment leaves what it might have left at the start.
-    ensures any_moment { LeavesOnly D.moment D.left_since device.old device.new (D.may_leave device.old) }
-    ensures loans { D.loans device.new ≡ D.loans device.old }
-    ensures never_falls { D.fault_count device.old ≤ D.fault_count device.new }
+    ensures disk_fault { HasCause (IsErrOf result OpenFault.DiskFault) (D.fault_count device.old)
+        (D.fault_count device.new) }
+    ensures only_reads { OnlyReads D.Device device.old device.new }
 {
     let head = read_head(device, limit)?;
     let listed = read_listed(alloc, device, &head)?;
@@ -60,11 +57,9 @@ fn read_head<D: Device>(device: &mut D, limit: u32) -> Result<Super, OpenFault>
     ensures inside { IsTrue D.tells → IfOk result (λ s. s.blocks * s.block ≤ length (D.seen device.old)) }
     ensures text { IsTrue D.tells → IfOk result (λ s. take 56 (D.seen device.old) ≡ superblock_text s) }
     ensures reads { IsTrue D.tells → Tells (λ s. s) result (superblock_in (D.seen device.old) limit) }
-    ensures disk_fault { IsErrOf result OpenFault.DiskFault → Rose (D.fault_count device.old) (D.fault_count device.new) }
-    ensures seen { D.seen device.new ≡ D.seen device.old }
-    ensures any_moment { LeavesOnly D.moment D.left_since device.old device.new (D.may_leave device.old) }
-    ensures loans { D.loans device.new ≡ D.loans device.old }
-    ensures never_falls { D.fault_count device.old ≤ D.fault_count device.new }
+    ensures disk_fault { HasCause (IsErrOf result OpenFault.DiskFault) (D.fault_count device.old)
+        (D.fault_count device.new) }
+    ensures only_reads { OnlyReads D.Device device.old device.new }
 {
     let (bytes, len) = read_front(device)?;
     let head = read_super(&bytes, len, limit)?;
@@ -75,11 +70,9 @@ fn read_head<D: Device>(device: &mut D, limit: u32) -> Result<Super, OpenFault>
 fn read_front<D: Device>(device: &mut D) -> Result<([u8; SUPER_BYTES], u64), ReadFault>
     ensures len { IsTrue D.tells → IfOk result (λ front. front.1 ≡ length (D.seen device.old)) }
     ensures bytes { IsTrue D.tells → IfOk result (λ front. 56 ≤ front.1 → front.0 ≡ take 56 (D.seen device.old)) }
-    ensures failed { IsErrOf result ReadFault.Failed → Rose (D.fault_count device.old) (D.fault_count device.new) }
-    ensures seen { D.seen device.new ≡ D.seen device.old }
-    ensures any_moment { LeavesOnly D.moment D.left_since device.old device.new (D.may_leave device.old) }
-    ensures loans { D.loans device.new ≡ D.loans device.old }
-    ensures never_falls { D.fault_count device.old ≤ D.fault_count device.new }
+    ensures failed { HasCause (IsErrOf result ReadFault.Failed) (D.fault_count device.old)
+        (D.fault_count device.new) }
+    ensures only_reads { OnlyReads D.Device device.old device.new }
 {
     let mut bytes = [0; SUPER_BYTES];
     let len = device.size()?;
@@ -103,11 +96,9 @@ fn read_listed<D: Device>(
     ensures block_map { IfOk result (λ listed. listed.items ≡ head.now.map_addr ∷ drop 1 listed.items) }
     ensures count { IfOk result (λ listed. length listed.items ≡ 1 + blocks_of_size head.now.block head.now.dir_bytes) }
     ensures reads { IsTrue D.tells → Tells (λ listed. listed.items) result (listed_blocks (D.seen device.old) head.now) }
-    ensures disk_fault { IsErrOf result OpenFault.DiskFault → Rose (D.fault_count device.old) (D.fault_count device.new) }
-    ensures seen { D.seen device.new ≡ D.seen device.old }
-    ensures any_moment { LeavesOnly D.moment D.left_since device.old device.new (D.may_leave device.old) }
-    ensures loans { D.loans device.new ≡ D.loans device.old }
-    ensures never_falls { D.fault_count device.old ≤ D.fault_count device.new }
+    ensures disk_fault { HasCause (IsErrOf result OpenFault.DiskFault) (D.fault_count device.old)
+        (D.fault_count device.new) }
+    ensures only_reads { OnlyReads D.Device device.old device.new }
 {
     let block_map = read_blocks(alloc, device, head.block, &[head.map_addr])?;
     let listed = listed_in(alloc, head, &block_map)?;
@@ -145,11 +136,9 @@ fn read_streams<D: Device>(
     ensures spelled { IsTrue D.tells → IfOk result (Spells head.now.block
         (take head.now.dir_bytes (bytes_of_blocks head.now.block (D.seen device.old) (drop 1 listed.now)))) }
     ensures reads { IsTrue D.tells → Tells (λ streams. streams) result (streams_in (D.seen device.old) head.now listed.now) }
-    ensures disk_fault { IsErrOf result OpenFault.DiskFault → Rose (D.fault_count device.old) (D.fault_count device.new) }
-    ensures seen { D.seen device.new ≡ D.seen device.old }
-    ensures any_moment { LeavesOnly D.moment D.left_since device.old device.new (D.may_leave device.old) }
-    ensures loans { D.loans device.new ≡ D.loans device.old }
-    ensures never_falls { D.fault_count device.old ≤ D.fault_count device.new }
+    ensures disk_fault { HasCause (IsErrOf result OpenFault.DiskFault) (D.fault_count device.old)
+        (D.fault_count device.new) }
+    ensures only_reads { OnlyReads D.Device device.old device.new }
 {
     let bytes = read_blocks(alloc, device, head.block, &listed[1..])?;
     let text = &bytes[..head.dir_bytes as usize];
@@ -169,11 +158,9 @@ fn read_free_blocks<D: Device>(
     ensures unreserved { IfOk result (λ m. All (λ b. ¬ IsReserved head.now.block b) m.free) }
     ensures rising { IfOk result (λ m. IsStrictlyIncreasing m.free) }
     ensures reads { IsTrue D.tells → Tells (λ free. free) result (Ok (free_blocks_in (D.seen device.old) head.now)) }
-    ensures disk_fault { IsErrOf result OpenFault.DiskFault → Rose (D.fault_count device.old) (D.fault_count device.new) }
-    ensures seen { D.seen device.new ≡ D.seen device.old }
-    ensures any_moment { LeavesOnly D.moment D.left_since device.old device.new (D.may_leave device.old) }
-    ensures loans { D.loans device.new ≡ D.loans device.old }
-    ensures never_falls { D.fault_count device.old ≤ D.fault_count device.new }
+    ensures disk_fault { HasCause (IsErrOf result OpenFault.DiskFault) (D.fault_count device.old)
+        (D.fault_count device.new) }
+    ensures only_reads { OnlyReads D.Device device.old device.new }
 {
     let blocks = active_map_blocks(alloc, head)?;
     let maps = read_blocks(alloc, device, head.block, &blocks)?;
