@@ -5,15 +5,9 @@ use Rattle.msf_blocks.specs.declared.superblock.Super.{Super}
 use Rattle.msf_blocks.specs.declared.superblock.SuperFault.{SuperFault}
 use Rattle.msf_blocks.specs.declared.superblock.SuperFault.TheVariants.{BlockSize, FreeMap, Blocks, Directory, MapAddr}
 use Rattle.msf_blocks.specs.Blocks.{is_block_size, is_reserved, IsMap}
-use Rattle.msf_blocks.specs.Superblock.{IsSuper, first_fault, has_blocks, has_directory, has_map_addr, number_tests}
-
--- one test more
-pub was_passed : (b : Bool) (f : SuperFault) (tests : List (Bool × SuperFault)) → first_fault ((b, f) ∷ tests) ≡ None → (b ≡ true) × (first_fault tests ≡ None)
-was_passed true f tests e = (refl, e)
-was_passed false f tests e = absurd cc
-
-pub is_passed : (b : Bool) (f : SuperFault) (tests : List (Bool × SuperFault)) → b ≡ true → first_fault tests ≡ None → first_fault ((b, f) ∷ tests) ≡ None
-is_passed b f tests e h = ap (λ c. cond c (first_fault tests) (Some f)) e ∙ h
+use Rattle.msf_blocks.specs.Judging.{first_damage}
+use Rattle.msf_blocks.specs.Superblock.{IsSuper, has_blocks, has_directory, has_map_addr, number_tests}
+use Rattle.msf_blocks.proofs.Judging.{is_passed, was_passed}
 
 map_from_test : (map : ℕ) → (eqb map 1 || eqb map 2) ≡ true → IsMap map
 map_from_test map e =
@@ -29,7 +23,7 @@ pub record Leaves (s : Super) (file_len limit : ℕ) : Type 0 where
   pub limited : s.blocks ≤ limit
   pub inside : s.blocks * s.block ≤ file_len
 
-pub leaves : (s : Super) (file_len limit : ℕ) → s.blocks < 2 ^ 32 → s.unknown < 2 ^ 32 → first_fault (number_tests s file_len limit) ≡ None → Leaves s file_len limit
+pub leaves : (s : Super) (file_len limit : ℕ) → s.blocks < 2 ^ 32 → s.unknown < 2 ^ 32 → first_damage (number_tests s file_len limit) ≡ None → Leaves s file_len limit
 leaves s file_len limit few fits e =
     let t5 : List (Bool × SuperFault) = [] in
     let t4 : List (Bool × SuperFault) = (has_map_addr s, MapAddr) ∷ t5 in
@@ -62,7 +56,7 @@ leaves s file_len limit few fits e =
       inside = leb-true (s.blocks * s.block) file_len blocks.1;
     }
 
-pub all_passed : (s : Super) (file_len limit : ℕ) → IsSuper s → s.blocks ≤ limit → s.blocks * s.block ≤ file_len → first_fault (number_tests s file_len limit) ≡ None
+pub all_passed : (s : Super) (file_len limit : ℕ) → IsSuper s → s.blocks ≤ limit → s.blocks * s.block ≤ file_len → first_damage (number_tests s file_len limit) ≡ None
 all_passed s file_len limit is limited inside =
     let t5 : List (Bool × SuperFault) = [] in
     let t4 : List (Bool × SuperFault) = (has_map_addr s, MapAddr) ∷ t5 in

@@ -5,20 +5,21 @@ use Rattle.std.specs.List.{flat_map}
 use Rattle.std.proofs.lemmas.Bool.{cases_lt}
 use Rattle.std.proofs.lemmas.List.{get_or-append_right, get_or_append_left, get_or_past, length-append, length-map, length-take, take-take}
 use Rattle.msf_blocks.specs.declared.superblock.Super.{Super}
-use Rattle.msf_blocks.specs.declared.superblock.SuperFault.{SuperFault}
 use Rattle.msf_blocks.specs.Blocks.{block_offset}
-use Rattle.msf_blocks.specs.Superblock.{IsSuper, first_fault, numbers_of, superblock_tests, superblock_text}
+use Rattle.msf_blocks.specs.Judging.{told_by, unless}
+use Rattle.msf_blocks.specs.Superblock.{IsSuper, superblock_text, superblock_told}
 use Rattle.msf_blocks.proofs.Numbers.{AreBytes, AreBytes-drop, AreBytes-take}
 use Rattle.msf_blocks.proofs.Sizes.{IsSuper-dir_bytes-lt}
-use Rattle.msf_blocks.proofs.SuperblockTexts.{Found, found}
+use Rattle.msf_blocks.proofs.SuperblockTexts.{Found, found_ok}
+use Rattle.msf_blocks.proofs.Judging.{bound_ok, told_by_ok, unless_ok}
 use Rattle.free_page_maps.specs.FreeBlocks.{FreeBlocks, is_free}
-use Rattle.stream_directory.specs.declared.fault.DirFault.{DirFault}
 use Rattle.stream_directory.specs.Directory.{AreUsable, IsDirectory, Spells, StreamBlocks, blocks_in, numbers_behind, size_field, stream_at}
-use Rattle.stream_directory.specs.Reading.{first_bad, reading, unless}
+use Rattle.stream_directory.specs.Reading.{first_bad, reading}
 use Rattle.stream_directory.proofs.Streams.{IsRead, length-words, none_from_usable, read_is, reading_again, usable_from_none}
 use Rattle.msf_image.specs.declared.image.Image.{Image}
 use Rattle.msf_image.specs.declared.fault.OpenFault.{OpenFault}
-use Rattle.msf_image.specs.Reads.{◌>>=◌, block_bytes, bytes_of_blocks, content_of, directory_blocks, free_blocks_in, listed_blocks, of_file, read_file, streams_in, superblock_in, tested, unless_free, used_blocks, with_free}
+use Rattle.msf_image.specs.Faults.{damage_of_directory, damage_of_superblock, free_damage}
+use Rattle.msf_image.specs.Reads.{block_bytes, bytes_of_blocks, content_of, directory_blocks, free_blocks_in, listed_blocks, read_file, streams_in, superblock_in, used_blocks, with_free}
 use Rattle.msf_image.specs.Relation.{Reads, contents_in, directory_in, stream_in}
 use Rattle.msf_image.proofs.Directories.{done, streams_from_text}
 use Rattle.msf_image.proofs.Listed.{listed_from, usable_behind, usable_both, usable_front}
@@ -30,7 +31,7 @@ use Rattle.msf_image.proofs.Superblocks.{superblock_from}
 
 judged_free : (used : List ℕ) (image : Image) → All (λ b. is_free image.free b ≡ false) used → with_free used image ≡ Ok image
 unfolding with_free
-judged_free used image none = ap (λ found. unless_free found image) (none_found (is_free image.free) used none)
+judged_free used image none = ap (λ found. told_by free_damage (unless found image)) (none_found (is_free image.free) used none)
 
 -- a directory of so few bytes has few streams
 pub directory_read : (file : List ℕ) (limit : ℕ) (image : Image) (streams : List (Option (List ℕ))) → Reads file limit image streams → IsDirectory image.head (image.head.map_addr ∷ directory_blocks file image.head) image.directory
@@ -71,17 +72,10 @@ pub record Stages (file : List ℕ) (limit : ℕ) (image : Image) : Type 0 where
   pub free : free_blocks_in file image.head ≡ image.free
   pub none : find (is_free image.free) (used_blocks listed image.directory) ≡ None
 
-bound_ok : {A B : Type 0} (r : Result A OpenFault) (f : A → Result B OpenFault) (y : B) → (r >>= f) ≡ Ok y → (x : A) × (r ≡ Ok x) × (f x ≡ Ok y)
-bound_ok (Ok x) f y e = (x, refl, e)
-bound_ok (Err d) f y e = absurd cc
-
-unless_ok : (found : Option ℕ) (image answer : Image) → unless_free found image ≡ Ok answer → (found ≡ None) × (image ≡ answer)
-unless_ok None image answer e = (refl, cc)
-unless_ok (Some b) image answer e = absurd cc
-
 with_free_ok : (used : List ℕ) (image answer : Image) → with_free used image ≡ Ok answer → (find (is_free image.free) used ≡ None) × (image ≡ answer)
 unfolding with_free
-with_free_ok used image answer e = unless_ok (find (is_free image.free) used) image answer e
+with_free_ok used image answer e =
+    unless_ok (find (is_free image.free) used) image answer (told_by_ok free_damage (unless (find (is_free image.free) used) image) answer e)
 
 pub stages : (file : List ℕ) (limit : ℕ) (image : Image) → read_file file limit ≡ Ok image → Stages file limit image
 unfolding read_file
@@ -94,18 +88,11 @@ stages file limit image e =
     subst (Stages file limit) d.1 (record { listed = b.0; head = a.1; list = b.1; streams = c.1; free = refl; none = d.0 })
 
 -- what the list of blocks is
-listed_ok_is : (found : Option DirFault) (blocks listed : List ℕ) → of_file (unless found blocks) ≡ Ok listed → (found ≡ None) × (blocks ≡ listed)
-listed_ok_is None blocks listed e = (refl, cc)
-listed_ok_is (Some fault) blocks listed e = absurd (bad fault e)
-  where
-    bad : (fault : DirFault) → of_file {A = List ℕ} (Err fault) ≡ Ok listed → ⊥
-    bad fault e = cc
-
 pub listed_is : (file listed : List ℕ) (s : Super) → listed_blocks file s ≡ Ok listed → (first_bad s [] listed ≡ None) × (listed ≡ s.map_addr ∷ directory_blocks file s)
 unfolding listed_blocks
 listed_is file listed s e =
     let blocks = s.map_addr ∷ directory_blocks file s in
-    let is = listed_ok_is (first_bad s [] blocks) blocks listed e in
+    let is = unless_ok (first_bad s [] blocks) blocks listed (told_by_ok damage_of_directory (unless (first_bad s [] blocks) blocks) listed e) in
     (subst (λ l. first_bad s [] l ≡ None) is.1 is.0, sym is.1)
 
 -- the facts of each stage, joined
@@ -184,31 +171,18 @@ AreBytes-all file all i =
     ]
 
 -- the superblock that was answered
-tested_ok : (found : Option SuperFault) (s head : Super) → tested found s ≡ Ok head → (found ≡ None) × (head ≡ s)
-tested_ok None s head e = (refl, cc)
-tested_ok (Some fault) s head e = absurd (bad fault e)
-  where
-    bad : (fault : SuperFault) → tested (Some fault) s ≡ Ok head → ⊥
-    bad fault e = cc
-
 superblock_is : (file : List ℕ) (limit : ℕ) (s : Super) → AreBytes file → superblock_in file limit ≡ Ok s → Found (take 56 file) (length file) limit s
 unfolding superblock_in
 superblock_is file limit s bytes e =
-    let answer : Result Super SuperFault = Ok s in
-    let is = tested_ok (first_fault (superblock_tests (take 56 file) (length file) limit)) (numbers_of (take 56 file)) s e in
-    found (take 56 file) (length file) limit answer (Found (take 56 file) (length file) limit) (AreBytes-take 56 file bytes) is (λ s f. f)
+    found_ok (take 56 file) (length file) limit s (AreBytes-take 56 file bytes) (told_by_ok damage_of_superblock (superblock_told (take 56 file) (length file) limit) s e)
 
 -- the directory that was answered
-of_file_ok : {A : Type 0} (r : Result A DirFault) (x : A) → of_file r ≡ Ok x → r ≡ Ok x
-of_file_ok (Ok y) x e = let same : y ≡ x = cc in ap Ok same
-of_file_ok (Err fault) x e = absurd cc
-
 streams_are : (file listed : List ℕ) (s : Super) (streams : List (Option StreamBlocks)) → AreBytes file → streams_in file s listed ≡ Ok streams
     → IsRead s listed (take s.dir_bytes (bytes_of_blocks s.block file (drop 1 listed))) streams
 unfolding streams_in
 streams_are file listed s streams bytes e =
     let text = take s.dir_bytes (bytes_of_blocks s.block file (drop 1 listed)) in
-    read_is s listed text streams (AreBytes-take s.dir_bytes (bytes_of_blocks s.block file (drop 1 listed)) (AreBytes-blocks s.block file (drop 1 listed) bytes)) (of_file_ok (reading s listed text) streams e)
+    read_is s listed text streams (AreBytes-take s.dir_bytes (bytes_of_blocks s.block file (drop 1 listed)) (AreBytes-blocks s.block file (drop 1 listed) bytes)) (told_by_ok damage_of_directory (reading s listed text) streams e)
 
 pub reads_judged : (file : List ℕ) (limit : ℕ) (image : Image) → All (λ byte. byte < 2 ^ 8) file → read_file file limit ≡ Ok image → Reads file limit image (contents_in file image)
 reads_judged file limit image all e =

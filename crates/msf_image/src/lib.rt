@@ -8,7 +8,7 @@ mod laws;
 mod open;
 mod packed;
 
-pub use crate::fault::{DamageKind, OpenFault};
+pub use crate::fault::{Damage, DamageKind, OpenFault};
 pub use crate::image::Image;
 pub use crate::laws::{
     given_in_order, judged_where_it_reads, packed_file_reads, reading_hangs_on_its_source,

@@ -6,11 +6,13 @@ ghost use Rattle.std.specs.List.Sorted.{IsStrictlyIncreasing};
 ghost use Rattle.srv_edge.specs.Count.{HasCause};
 ghost use Rattle.srv_edge.specs.Reading.{OnlyReads};
 ghost use Rattle.msf_blocks.specs.Blocks.{IsReserved, blocks_of_size};
+ghost use Rattle.msf_blocks.specs.Judging.{Tells};
 ghost use Rattle.msf_blocks.specs.Superblock.{IsSuper, superblock_text};
 ghost use Rattle.free_page_maps.specs.FreeBlocks.{is_free};
 ghost use Rattle.stream_directory.specs.Directory.{AreUsable, IsDirectory, Spells, blocks_in};
 ghost use Rattle.stream_directory.specs.Reading.{words_in};
-ghost use Rattle.msf_image.specs.Reads.{IsWhole, Tells, active_map_blocks, bytes_of_blocks, free_blocks_in, listed_blocks, read_file, streams_in, superblock_in, used_blocks, with_free};
+ghost use Rattle.msf_image.specs.Faults.{damage_in};
+ghost use Rattle.msf_image.specs.Reads.{IsWhole, active_map_blocks, bytes_of_blocks, free_blocks_in, listed_blocks, read_file, streams_in, superblock_in, used_blocks, with_free};
 ghost use Rattle.msf_image.specs.Relation.{Reads, contents_in};
 
 use crate::blocks::{ReadFault, read_blocks};
@@ -26,7 +28,7 @@ use stream_directory::{Directory, Stream, judge, read_directory_behind, words_of
 /// block, the directory and the map alone, whatever the file's length says.
 pub fn open_image<D: Device>(alloc: Global, device: &mut D, limit: u32) -> Result<Image, OpenFault>
     // What is read is what the file reads as, and the damage is its first.
-    ensures reads { IsTrue D.tells → Tells (λ image. image) result (read_file (D.seen device.old) limit) }
+    ensures reads { IsTrue D.tells → Tells damage_in (λ image. image) result (read_file (D.seen device.old) limit) }
     ensures image { IsTrue D.tells → IfOk result
         (λ image. Reads (D.seen device.old) limit image (contents_in (D.seen device.old) image)) }
     ensures whole { IfOk result IsWhole }
@@ -56,7 +58,7 @@ fn read_head<D: Device>(device: &mut D, limit: u32) -> Result<Super, OpenFault>
     ensures limited { IfOk result (λ s. s.blocks ≤ limit) }
     ensures inside { IsTrue D.tells → IfOk result (λ s. s.blocks * s.block ≤ length (D.seen device.old)) }
     ensures text { IsTrue D.tells → IfOk result (λ s. take 56 (D.seen device.old) ≡ superblock_text s) }
-    ensures reads { IsTrue D.tells → Tells (λ s. s) result (superblock_in (D.seen device.old) limit) }
+    ensures reads { IsTrue D.tells → Tells damage_in (λ s. s) result (superblock_in (D.seen device.old) limit) }
     ensures disk_fault { HasCause (IsErrOf result OpenFault.DiskFault) (D.fault_count device.old)
         (D.fault_count device.new) }
     ensures only_reads { OnlyReads D.Device device.old device.new }
@@ -95,7 +97,7 @@ fn read_listed<D: Device>(
     ensures usable { IfOk result (λ listed. AreUsable head.now [] listed.items) }
     ensures block_map { IfOk result (λ listed. listed.items ≡ head.now.map_addr ∷ drop 1 listed.items) }
     ensures count { IfOk result (λ listed. length listed.items ≡ 1 + blocks_of_size head.now.block head.now.dir_bytes) }
-    ensures reads { IsTrue D.tells → Tells (λ listed. listed.items) result (listed_blocks (D.seen device.old) head.now) }
+    ensures reads { IsTrue D.tells → Tells damage_in (λ listed. listed.items) result (listed_blocks (D.seen device.old) head.now) }
     ensures disk_fault { HasCause (IsErrOf result OpenFault.DiskFault) (D.fault_count device.old)
         (D.fault_count device.new) }
     ensures only_reads { OnlyReads D.Device device.old device.new }
@@ -135,7 +137,7 @@ fn read_streams<D: Device>(
     ensures found { IfOk result (IsDirectory head.now listed.now) }
     ensures spelled { IsTrue D.tells → IfOk result (Spells head.now.block
         (take head.now.dir_bytes (bytes_of_blocks head.now.block (D.seen device.old) (drop 1 listed.now)))) }
-    ensures reads { IsTrue D.tells → Tells (λ streams. streams) result (streams_in (D.seen device.old) head.now listed.now) }
+    ensures reads { IsTrue D.tells → Tells damage_in (λ streams. streams) result (streams_in (D.seen device.old) head.now listed.now) }
     ensures disk_fault { HasCause (IsErrOf result OpenFault.DiskFault) (D.fault_count device.old)
         (D.fault_count device.new) }
     ensures only_reads { OnlyReads D.Device device.old device.new }
@@ -157,7 +159,7 @@ fn read_free_blocks<D: Device>(
     ensures inside { IfOk result (λ m. All (λ b. b < head.now.blocks) m.free) }
     ensures unreserved { IfOk result (λ m. All (λ b. ¬ IsReserved head.now.block b) m.free) }
     ensures rising { IfOk result (λ m. IsStrictlyIncreasing m.free) }
-    ensures reads { IsTrue D.tells → Tells (λ free. free) result (Ok (free_blocks_in (D.seen device.old) head.now)) }
+    ensures reads { IsTrue D.tells → Tells damage_in (λ free. free) result (Ok (free_blocks_in (D.seen device.old) head.now)) }
     ensures disk_fault { HasCause (IsErrOf result OpenFault.DiskFault) (D.fault_count device.old)
         (D.fault_count device.new) }
     ensures only_reads { OnlyReads D.Device device.old device.new }
@@ -186,7 +188,7 @@ fn active_map_blocks(alloc: Global, head: &Super) -> Result<Vec<u32>, AllocError
 // The image, unless one of its used blocks is free.
 #[tactic(auto, unfolding(crate::specs::Reads::with_free))]
 fn judge_used(image: Image, listed: &[u32]) -> Result<Image, OpenFault>
-    ensures told { Tells (λ image. image) result (with_free (used_blocks listed.now image.directory) image) }
+    ensures told { Tells damage_in (λ image. image) result (with_free (used_blocks listed.now image.directory) image) }
     ensures same { IfOk result (λ judged. judged ≡ image) }
     ensures none_free { OnOk result (All (λ b. is_free image.free b ≡ false) (used_blocks listed.now image.directory)) }
     ensures no_fault { ¬ IsErrOf result OpenFault.DiskFault }

@@ -13,9 +13,9 @@ ghost use Rattle.msf_image.specs.Packed.{IsPackable, IsSmall, block_of, file_blo
 use crate::image::Image;
 use free_page_maps::FreeMap;
 use msf_blocks::{Super, blocks_of_size, is_block_size, write_super};
-use srv_edge::{Text, word};
+use srv_edge::Text;
 use std::alloc::{AllocError, Global};
-use stream_directory::{ABSENT_SIZE, Directory, Stream, write_directory};
+use stream_directory::{ABSENT_SIZE, Directory, Stream, put_words, write_directory};
 
 // A packed file has no more blocks, and fewer streams.
 const MOST_BLOCKS: u32 = 1_048_576;
@@ -249,16 +249,6 @@ fn put_zeros(bytes: &mut Vec<u8>, count: usize) -> Result<(), AllocError>
 {
     let end = bytes.len() + count;
     bytes.resize(end, 0)
-}
-
-// Puts numbers behind bytes.
-fn put_words(bytes: &mut Vec<u8>, words: &[u32]) -> Result<(), AllocError>
-    ensures { OnOk result (bytes.new.items ≡ bytes.old.items ++ flat_map word words.now) }
-{
-    for n in words {
-        bytes.extend_from_slice(&word(*n))?;
-    }
-    Ok(())
 }
 
 // So many blocks of which none is free.

@@ -47,7 +47,8 @@ fn put_blocks(text: &mut Vec<u8>, streams: &[Option<Stream>]) -> Result<(), Allo
     Ok(())
 }
 
-fn put_words(text: &mut Vec<u8>, words: &[u32]) -> Result<(), AllocError>
+/// Puts numbers behind bytes, each as four bytes with the lowest first.
+pub fn put_words(text: &mut Vec<u8>, words: &[u32]) -> Result<(), AllocError>
     ensures { OnOk result (text.new.items ≡ text.old.items ++ flat_map word words.now) }
 {
     for n in words {

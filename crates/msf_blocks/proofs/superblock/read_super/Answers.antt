@@ -1,5 +1,5 @@
-use Rattle.std.proofs.Common.{arith}
-use Rattle.msf_blocks.proofs.SuperblockTexts.{found, only}
+use Rattle.std.proofs.Common.{◌∙◌, arith}
+use Rattle.msf_blocks.proofs.SuperblockTexts.{found, told_again}
 use Rattle.msf_blocks.proofs.superblock.read_super.Goals as goal
 
 pub returns-clause-passes : goal.returns-clause-passes
@@ -20,4 +20,4 @@ returns-clause-inside c =
 
 pub returns-clause-only : goal.returns-clause-only
 returns-clause-only c = λ s is text limited inside.
-    only c.args.bytes.now c.args.file_len c.args.limit c.judged.result s c.judged.ensures (record { is_super = is; text = text; limited = limited; inside = inside })
+    c.judged.ensures ∙ told_again c.args.bytes.now c.args.file_len c.args.limit s (record { is_super = is; text = text; limited = limited; inside = inside })
