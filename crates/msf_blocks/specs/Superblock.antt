@@ -1,5 +1,5 @@
 -- The superblock: the text of its six numbers, and the tests that it has to pass.
-use Rattle.std.specs.Prelude.{◌≡◌, ◌≤◌, ◌<◌, ℕ, ◌*◌, ◌/◌, ◌^◌, ◌==◌, ◌&&◌, ◌||◌, not, nat_eq, nat_lt, nat_le, Bool, List, [], ◌∷◌, ◌++◌, length, drop, Result, codes}
+use Rattle.std.specs.Prelude.{◌≤◌, ◌<◌, ℕ, ◌*◌, ◌/◌, ◌^◌, ◌==◌, ◌&&◌, ◌||◌, not, nat_eq, nat_lt, nat_le, Bool, List, [], ◌∷◌, ◌++◌, length, drop, Result, codes}
 use Rattle.std.specs.List.{starts_with}
 use Rattle.byteorder.specs.Endian.{little_bytes, little_number}
 use Rattle.msf_blocks.specs.declared.superblock.Super.{Super}

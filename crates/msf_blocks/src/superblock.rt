@@ -54,8 +54,8 @@ pub fn read_super(bytes: &[u8], file_len: u64, limit: u32) -> Result<Super, Supe
     ensures limited { IfOk result (λ s. s.blocks ≤ limit) }
     ensures inside { IfOk result (λ s. s.blocks * s.block ≤ file_len) }
     // What is spelled so is read.
-    ensures only { (s : Super) → IsSuper s → take 56 bytes.now ≡ superblock_text s → s.blocks ≤ limit
-        → s.blocks * s.block ≤ file_len → result ≡ Ok s }
+    ensures only { (s : Super) → IsSuper s → take 56 bytes.now ≡ superblock_text s
+        → s.blocks ≤ limit → s.blocks * s.block ≤ file_len → result ≡ Ok s }
     // Which fault it is.
     ensures exact { result ≡ superblock_told bytes.now file_len limit }
 {

@@ -1,5 +1,5 @@
 -- The blocks that the block map lists, and faults that are told.
-use Rattle.std.proofs.Common.{◌≡◌, ◌≤◌, ◌<◌, ◌+◌, ◌*◌, ◌/◌, ◌%◌, ◌++◌, ◌-◌, ℕ, zero, suc, List, [], ◌∷◌, append_assoc, length, take, drop, All, Option, None, Result, Ok, Err, refl, sym, ap, subst, ◌∙◌, IsErrAnd, arith}
+use Rattle.std.proofs.Common.{◌≡◌, ◌≤◌, ◌<◌, ◌+◌, ◌*◌, ◌/◌, ◌%◌, ◌++◌, ◌-◌, ℕ, zero, suc, List, [], ◌∷◌, append_assoc, length, take, drop, All, None, Result, Ok, Err, refl, sym, ap, subst, ◌∙◌, IsErrAnd, arith}
 use Rattle.std.specs.Prelude.{IfSome}
 use Rattle.std.specs.Option.{option_map}
 use Rattle.std.proofs.lemmas.List.{append-nil, length-take-le}

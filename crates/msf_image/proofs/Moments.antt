@@ -1,6 +1,5 @@
 -- Runs of calls that only read, one after another.
 use Rattle.std.proofs.Common.{◌≤◌, ℕ, List, ◌∙◌, arith}
-use Rattle.srv_edge.specs.Disk.{LeavesOnly}
 use Rattle.srv_edge.specs.Reading.{OnlyReads}
 use Rattle.srv_edge.specs.declared.device.Device.{Ghosts}
 use Rattle.srv_edge.proofs.Moments.{holds_now, joined, weaker}

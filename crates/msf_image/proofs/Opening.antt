@@ -1,5 +1,5 @@
 -- The file as it is read: what is told at each stage is what the file tells.
-use Rattle.std.proofs.Common.{◌≡◌, ◌<◌, ◌+◌, ℕ, false, List, [], ◌∷◌, length, drop, All, Option, Result, Ok, Err, sym, ap, subst, ◌∙◌, arith, IsErrAnd, IfOk, OnOk}
+use Rattle.std.proofs.Common.{◌≡◌, ◌<◌, ◌+◌, ℕ, false, List, [], ◌∷◌, length, drop, All, Option, Result, Ok, Err, sym, ap, subst, ◌∙◌, arith, IfOk, OnOk}
 use Rattle.std.specs.List.{flat_map}
 use Rattle.std.specs.List.Sorted.{IsStrictlyIncreasing}
 use Rattle.msf_blocks.specs.declared.superblock.Super.{Super}

@@ -1,21 +1,19 @@
 -- A packed file reads as its streams, with no free block.
-use Rattle.std.proofs.Common.{◌≡◌, ◌≤◌, ◌<◌, ◌+◌, ◌-◌, ◌*◌, ◌/◌, ◌%◌, ◌^◌, ◌++◌, ◌&&◌, not, ℕ, zero, suc, Bool, true, false, cond, eqb, List, [], ◌∷◌, length, map, take, drop, replicate, get_or, All, Option, refl, sym, ap, subst, ◌∙◌, arith}
+use Rattle.std.proofs.Common.{◌≡◌, ◌≤◌, ◌<◌, ◌+◌, ◌-◌, ◌*◌, ◌/◌, ◌^◌, ◌++◌, ◌&&◌, not, ℕ, zero, suc, Bool, true, false, cond, List, [], ◌∷◌, length, map, take, drop, replicate, get_or, All, Option, refl, sym, ap, subst, ◌∙◌, arith}
 use Rattle.std.specs.Prelude.{filter}
 use Rattle.std.specs.List.{AllByRecursion, flat_map, range_with_len}
 use Rattle.std.proofs.lemmas.List.{append_assoc, append-nil, drop_at, take_at, take-take, length-append}
 use Rattle.std.proofs.lemmas.List.FromFn.{get_or-map-range_with_len, length-map-range_with_len}
 use Rattle.std.proofs.lemmas.List.Sums.{sum_by-cons}
-use Rattle.std.proofs.lemmas.Nat.Bits.{bit_at-zero}
 use Rattle.std.proofs.Math.Nat.{add-mul}
 use Rattle.std.proofs.Math.Seq.{take-append-add}
 use Rattle.msf_blocks.specs.declared.superblock.Super.{Super}
-use Rattle.msf_blocks.specs.Bits.{has_bit}
 use Rattle.msf_blocks.specs.Blocks.{IsBlockSize, IsReserved, blocks_of_size, is_reserved, map_block, map_blocks}
 use Rattle.msf_blocks.specs.Superblock.{superblock_text}
 use Rattle.msf_blocks.proofs.Numbers.{little_number-little_bytes}
 use Rattle.msf_blocks.proofs.Sizes.{sized}
 use Rattle.free_page_maps.specs.FreeBlocks.{below_where, free_in, is_free, unreserved_where}
-use Rattle.free_page_maps.specs.MapText.{map_text, number_where, map_bit}
+use Rattle.free_page_maps.specs.MapText.{map_text}
 use Rattle.free_page_maps.proofs.MapTexts.{length-map_text, map_again}
 use Rattle.stream_directory.specs.Directory.{AreUsable, blocks_in, directory_text, word}
 use Rattle.stream_directory.specs.Reading.{words_in}

@@ -1,6 +1,6 @@
 -- A file with the bytes from which an image is read reads as the same image.
-use Rattle.std.proofs.Common.{◌≡◌, ◌≤◌, ◌<◌, ◌+◌, ◌-◌, ◌*◌, ◌%◌, ◌++◌, ◌⊎◌, ◌||◌, ℕ, zero, suc, Bool, true, false, List, [], ◌∷◌, length, map, take, drop, get_or, All, Option, Some, None, refl, sym, ap, subst, ◌∙◌, eqb, inl, inr, arith}
-use Rattle.std.specs.List.{flat_map, list_any, range_with_len}
+use Rattle.std.proofs.Common.{◌≡◌, ◌≤◌, ◌<◌, ◌+◌, ◌-◌, ◌*◌, ◌%◌, ◌++◌, ◌||◌, ℕ, zero, suc, Bool, true, false, List, [], ◌∷◌, length, map, take, drop, get_or, All, Option, Some, None, refl, sym, ap, subst, ◌∙◌, eqb, inl, inr, arith}
+use Rattle.std.specs.List.{flat_map, list_any}
 use Rattle.std.proofs.lemmas.Bool.{both_ways, cases_Bool, cases_eq, cases_lt, eq-eqb, eqb-true}
 use Rattle.std.proofs.lemmas.List.{get_or-append-add, get_or_append_left, length-append, length-drop, length-take-le}
 use Rattle.std.proofs.lemmas.List.Elements.{All-append, All-head, All-tail}
@@ -12,7 +12,7 @@ use Rattle.srv_edge.proofs.Ranges.{headed_holds, headed_keeps, length-headed, to
 use Rattle.msf_blocks.specs.declared.superblock.Super.{Super}
 use Rattle.msf_blocks.specs.Bits.{has_bit}
 use Rattle.msf_blocks.specs.Blocks.{IsBlockSize, IsMap, IsReserved, block_offset, blocks_of_size, map_block, map_blocks}
-use Rattle.msf_blocks.specs.Superblock.{IsSuper, superblock_text}
+use Rattle.msf_blocks.specs.Superblock.{superblock_text}
 use Rattle.msf_blocks.proofs.Sizes.{sized}
 use Rattle.free_page_maps.specs.FreeBlocks.{FreeBlocks, free_in, is_free}
 use Rattle.free_page_maps.proofs.Listing.{unreserved_where-unreserved}
@@ -20,7 +20,7 @@ use Rattle.stream_directory.specs.Directory.{AreUsable, Spells, StreamBlocks, bl
 use Rattle.stream_directory.specs.Reading.{words_in}
 use Rattle.msf_image.specs.declared.image.Image.{Image}
 use Rattle.msf_image.specs.Reads.{IsWhole, active_map_blocks, block_bytes, bytes_of_blocks, directory_blocks, free_blocks_in, used_blocks}
-use Rattle.msf_image.specs.Relation.{IsApart, IsSpare, Reads, SameSource, SparesSource, contents_in, directory_in, source_blocks, stream_in, used_in}
+use Rattle.msf_image.specs.Relation.{IsApart, IsSpare, Reads, SameSource, SparesSource, directory_in, source_blocks, stream_in, used_in}
 use Rattle.msf_image.proofs.Directories.{free_inside, free_rising, map_inside}
 use Rattle.msf_image.proofs.Joining.{block_inside}
 use Rattle.msf_image.proofs.Listed.{listed_fit, usable_inside}

@@ -1,5 +1,5 @@
 -- What a file reads as: its superblock, its directory and its free blocks; or its first damage.
-use Rattle.std.specs.Prelude.{◌≡◌, ◌<◌, ℕ, List, [], ◌∷◌, ◌++◌, length, All, map, take, drop, find, false, Option, Some, None, Result}
+use Rattle.std.specs.Prelude.{◌≡◌, ◌≤◌, ◌<◌, ◌*◌, ℕ, List, [], ◌∷◌, ◌++◌, length, All, map, take, drop, find, false, Option, Some, None, Result}
 use Rattle.std.specs.List.{flat_map, range_with_len}
 use Rattle.std.specs.List.Sorted.{IsStrictlyIncreasing}
 use Rattle.msf_blocks.specs.declared.superblock.Super.{Super}
@@ -12,6 +12,10 @@ use Rattle.stream_directory.specs.Reading.{first_bad, reading, words_in}
 use Rattle.msf_image.specs.declared.fault.Damage.{Damage}
 use Rattle.msf_image.specs.declared.image.Image.{Image}
 use Rattle.msf_image.specs.Faults.{damage_of_directory, damage_of_superblock, free_damage}
+
+-- a file is no shorter than its blocks
+abbrev pub HasBlocks : List ℕ → Super → Type 0
+HasBlocks file s = s.blocks * s.block ≤ length file
 
 -- the bytes of a block
 abbrev pub block_bytes : ℕ → List ℕ → ℕ → List ℕ

@@ -1,12 +1,12 @@
 -- What a file reads as, said of its bytes as a whole. docs/FORMAT.md has the format that each fact states.
-use Rattle.std.specs.Prelude.{◌≡◌, ◌≤◌, ◌+◌, ◌-◌, ◌*◌, ◌⊎◌, ℕ, true, false, List, [], ◌∷◌, ◌++◌, length, All, map, take, drop, Option, Some, None}
+use Rattle.std.specs.Prelude.{◌≡◌, ◌≤◌, ◌+◌, ◌-◌, ◌⊎◌, ℕ, true, false, List, [], ◌∷◌, ◌++◌, All, map, take, drop, Option, Some, None}
 use Rattle.msf_blocks.specs.declared.superblock.Super.{Super}
 use Rattle.msf_blocks.specs.Blocks.{block_offset, map_block}
 use Rattle.msf_blocks.specs.Superblock.{IsSuper, superblock_text}
 use Rattle.free_page_maps.specs.FreeBlocks.{is_free}
 use Rattle.stream_directory.specs.Directory.{AreSized, AreUsable, Spells, StreamBlocks}
 use Rattle.msf_image.specs.declared.image.Image.{Image}
-use Rattle.msf_image.specs.Reads.{active_map_blocks, block_bytes, bytes_of_blocks, directory_blocks, free_blocks_in, used_blocks}
+use Rattle.msf_image.specs.Reads.{HasBlocks, active_map_blocks, block_bytes, bytes_of_blocks, directory_blocks, free_blocks_in, used_blocks}
 
 -- the bytes of the directory: the blocks that the block map lists, joined and cut
 abbrev pub directory_in : List ℕ → Super → List ℕ
@@ -32,7 +32,7 @@ pub record Reads (file : List ℕ) (limit : ℕ) (image : Image) (streams : List
   pub head : IsSuper image.head
   pub text : take 56 file ≡ superblock_text image.head
   pub limited : image.head.blocks ≤ limit
-  pub inside : image.head.blocks * image.head.block ≤ length file
+  pub inside : HasBlocks file image.head
   -- its directory is the text of the streams, each with as many blocks as its size takes
   pub spelled : Spells image.head.block (directory_in file image.head) image.directory
   pub sized : AreSized image.head.block image.directory
@@ -51,7 +51,7 @@ source_blocks file image = used_in file image ++ active_map_blocks image.head
 pub record SameSource (image : Image) (file other : List ℕ) : Type 0 where
   pub head : take 56 other ≡ take 56 file
   pub blocks : All (λ b. block_bytes image.head.block other b ≡ block_bytes image.head.block file b) (source_blocks file image)
-  pub long : image.head.blocks * image.head.block ≤ length other
+  pub long : HasBlocks other image.head
 
 -- n bytes of the file that lie apart from a block
 abbrev pub IsApart : ℕ → ℕ → ℕ → ℕ → Type 0

@@ -46,11 +46,13 @@ pub fn read_blocks<D: Device>(
 ) -> Result<Vec<u8>, ReadFault>
     requires size { IsBlockSize block_size }
     requires few { length blocks.now ≤ 2 ^ 32 }
-    requires inside { IsTrue D.tells → All (λ b. b * block_size + block_size ≤ length (D.seen device.old)) blocks.now }
+    requires inside { IsTrue D.tells
+        → All (λ b. b * block_size + block_size ≤ length (D.seen device.old)) blocks.now }
     ensures len { IfOk result (λ bytes. length bytes.items ≡ length blocks.now * block_size) }
-    ensures bytes { IsTrue D.tells → IfOk result (λ bytes. bytes.items ≡ bytes_of_blocks block_size (D.seen device.old) blocks.now) }
-    ensures failed { HasCause (IsErrOf result ReadFault.Failed) (D.fault_count device.old)
-        (D.fault_count device.new) }
+    ensures bytes { IsTrue D.tells → IfOk result
+        (λ bytes. bytes.items ≡ bytes_of_blocks block_size (D.seen device.old) blocks.now) }
+    ensures failed { HasCause (IsErrOf result ReadFault.Failed)
+        (D.fault_count device.old) (D.fault_count device.new) }
     ensures only_reads { OnlyReads D.Device device.old device.new }
 {
     let mut bytes = Vec::with_capacity(alloc, blocks.len() * block_size as usize)?;
@@ -70,9 +72,10 @@ fn read_block<D: Device>(
     requires size { IsBlockSize block_size }
     requires inside { IsTrue D.tells → b * block_size + block_size ≤ length (D.seen device.old) }
     ensures len { OnOk result (length bytes.new.items ≡ length bytes.old.items + block_size) }
-    ensures bytes { IsTrue D.tells → OnOk result (bytes.new.items ≡ bytes.old.items ++ block_bytes block_size (D.seen device.old) b) }
-    ensures failed { HasCause (IsErrOf result ReadFault.Failed) (D.fault_count device.old)
-        (D.fault_count device.new) }
+    ensures bytes { IsTrue D.tells → OnOk result
+        (bytes.new.items ≡ bytes.old.items ++ block_bytes block_size (D.seen device.old) b) }
+    ensures failed { HasCause (IsErrOf result ReadFault.Failed)
+        (D.fault_count device.old) (D.fault_count device.new) }
     ensures only_reads { OnlyReads D.Device device.old device.new }
 {
     let end = bytes.len();

@@ -21,11 +21,12 @@ pub fn judged_where_it_reads()
 pub fn reading_hangs_on_its_source()
     ensures whole { (file : List ℕ) (limit : ℕ) (image : Image) (streams : List (Option (List ℕ)))
         → Reads file limit image streams → IsWhole image }
-    ensures same { (file other : List ℕ) (limit : ℕ) (image : Image) (streams : List (Option (List ℕ)))
-        → Reads file limit image streams → SameSource image file other → Reads other limit image streams }
-    ensures torn { (file other : List ℕ) (limit : ℕ) (image : Image) (streams : List (Option (List ℕ)))
-        (at n : ℕ) → Reads file limit image streams → SparesSource image file at n → Torn at n file other
-        → Reads other limit image streams }
+    ensures same { (file other : List ℕ) (limit : ℕ) (image : Image)
+        (streams : List (Option (List ℕ))) → Reads file limit image streams
+        → SameSource image file other → Reads other limit image streams }
+    ensures torn { (file other : List ℕ) (limit : ℕ) (image : Image)
+        (streams : List (Option (List ℕ))) (at n : ℕ) → Reads file limit image streams
+        → SparesSource image file at n → Torn at n file other → Reads other limit image streams }
     ensures headed { (file : List ℕ) (limit : ℕ) (image : Image) (streams : List (Option (List ℕ)))
         → Reads file limit image streams
         → Reads (headed file (superblock_text image.head)) limit image streams }
@@ -37,7 +38,8 @@ pub fn torn_write_spares()
     ensures block { (block_size at n b : ℕ) (file other : List ℕ) → Torn at n file other
         → block_offset block_size b + block_size ≤ length file → IsApart block_size at n b
         → block_bytes block_size other b ≡ block_bytes block_size file b }
-    ensures spare { (file : List ℕ) (limit : ℕ) (image : Image) (streams : List (Option (List ℕ))) (b : ℕ)
+    ensures spare { (file : List ℕ) (limit : ℕ) (image : Image)
+        (streams : List (Option (List ℕ))) (b : ℕ)
         → Reads file limit image streams → IsSpare image b
         → SparesSource image file (block_offset image.head.block b) image.head.block }
 {}
@@ -47,7 +49,8 @@ pub fn torn_write_spares()
 pub fn packed_file_reads()
     ensures reads { (size unknown limit : ℕ) (streams : List (Option (List ℕ))) → unknown < 2 ^ 32
         → IsPackable size streams → (packed_super size unknown streams).blocks ≤ limit
-        → Reads (packed size unknown streams) limit (packed_image size unknown streams) (drop 1 streams) }
+        → Reads (packed size unknown streams) limit (packed_image size unknown streams)
+        (drop 1 streams) }
     ensures whole { (size unknown : ℕ) (streams : List (Option (List ℕ))) → unknown < 2 ^ 32
         → IsPackable size streams → IsWhole (packed_image size unknown streams) }
 {}
@@ -58,5 +61,6 @@ pub fn given_in_order()
     ensures least { (size k : ℕ) → IsBlockSize size → 3 ≤ given size k }
     ensures unreserved { (size k : ℕ) → IsBlockSize size → ¬ IsReserved size (given size k) }
     ensures rises { (size j k : ℕ) → IsBlockSize size → j < k → given size j < given size k }
-    ensures none_left { (size b : ℕ) → IsBlockSize size → 3 ≤ b → ¬ IsReserved size b → (k : ℕ) × (given size k ≡ b) }
+    ensures none_left { (size b : ℕ) → IsBlockSize size → 3 ≤ b → ¬ IsReserved size b
+        → (k : ℕ) × (given size k ≡ b) }
 {}

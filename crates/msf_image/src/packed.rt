@@ -113,7 +113,8 @@ pub struct NewImage {
 pub fn new_image(alloc: Global, block: u32, streams: &[Text]) -> Result<NewImage, AllocError>
     requires { IsPackable block (present streams.now) }
     ensures image { IfOk result (λ new. new.image ≡ packed_image block 0 (present streams.now)) }
-    ensures listed { IfOk result (λ new. new.listed.items ≡ packed_listed block (present streams.now)) }
+    ensures listed { IfOk result (λ new. new.listed.items
+        ≡ packed_listed block (present streams.now)) }
     ensures whole { IfOk result (λ new. IsWhole new.image) }
 {
     lay_image(alloc, block, streams)
@@ -122,7 +123,8 @@ pub fn new_image(alloc: Global, block: u32, streams: &[Text]) -> Result<NewImage
 fn lay_image(alloc: Global, block: u32, streams: &[Text]) -> Result<NewImage, AllocError>
     requires { IsPackable block (present streams.now) }
     ensures image { IfOk result (λ new. new.image ≡ packed_image block 0 (present streams.now)) }
-    ensures listed { IfOk result (λ new. new.listed.items ≡ packed_listed block (present streams.now)) }
+    ensures listed { IfOk result (λ new. new.listed.items
+        ≡ packed_listed block (present streams.now)) }
 {
     let kept = stream_blocks(block, streams) as u32;
     let dir_bytes = 4 + 4 * streams.len() as u32 + 4 * kept;
@@ -220,7 +222,8 @@ fn content_of(
     requires size { IsBlockSize block }
     requires sizes { All (λ stream. length stream < absent_size) streams.now }
     requires short { length text.now < absent_size }
-    ensures { IfOk result (λ content. content.items ≡ flat_map (filled block) streams.now ++ (filled block text.now ++ flat_map word listed.now)) }
+    ensures { IfOk result (λ content. content.items ≡ flat_map (filled block) streams.now
+        ++ (filled block text.now ++ flat_map word listed.now)) }
 {
     let mut content = Vec::with_capacity(alloc, room as usize * block as usize)?;
     for stream in streams {
@@ -264,7 +267,8 @@ fn none_free(alloc: Global, block: u32, blocks: u32) -> Result<FreeMap, AllocErr
 #[tactic(auto, unfolding(crate::specs::Packed::file_of))]
 fn file_of(alloc: Global, head: &Super, map: &[u8], content: &[u8]) -> Result<Vec<u8>, AllocError>
     requires size { IsBlockSize head.now.block }
-    ensures { IfOk result (λ file. file.items ≡ file_of head.now.block (superblock_text head.now) map.now content.now head.now.blocks) }
+    ensures { IfOk result (λ file. file.items
+        ≡ file_of head.now.block (superblock_text head.now) map.now content.now head.now.blocks) }
 {
     let text = write_super(head);
     let mut file = Vec::with_capacity(alloc, head.blocks as usize * head.block as usize)?;
@@ -285,7 +289,8 @@ fn put_file_block(
     b: u32,
 ) -> Result<(), AllocError>
     requires size { IsBlockSize block }
-    ensures { OnOk result (file.new.items ≡ file.old.items ++ file_block block head.now map.now content.now b) }
+    ensures { OnOk result (file.new.items ≡ file.old.items
+        ++ file_block block head.now map.now content.now b) }
 {
     if b == 0 {
         put_block(file, block, head, 0)

@@ -49,7 +49,8 @@ fn block_damage(s: &Super, used: &[u8], b: u32) -> Option<DirDamage>
 fn bits_of(alloc: Global, blocks: u32, among: &[u32]) -> Result<Vec<u8>, AllocError>
     requires { All (λ b. b < blocks) among.now }
     ensures len { IfOk result (λ bits. vec_len bits ≡ (blocks + 7) / 8) }
-    ensures bits { IfOk result (λ bits. (k : ℕ) → has_bit bits.items k ≡ list_any (λ b. b == k) among.now) }
+    ensures bits { IfOk result (λ bits. (k : ℕ)
+        → has_bit bits.items k ≡ list_any (λ b. b == k) among.now) }
 {
     let mut bits = vec![in alloc; 0; blocks.div_ceil(8) as usize]?;
     for b in among {

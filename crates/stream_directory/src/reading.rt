@@ -22,7 +22,8 @@ pub fn read_directory(alloc: Global, bytes: &[u8], s: &Super) -> Result<Director
     ensures spelled { IfOk result (Spells s.now.block bytes.now) }
     // What is spelled so is read, unless memory runs out.
     ensures only { (streams : List (Option StreamBlocks)) → IsDirectory s.now [] streams
-        → Spells s.now.block bytes.now streams → Tells directory_damage (λ d. d) result (Ok streams) }
+        → Spells s.now.block bytes.now streams
+        → Tells directory_damage (λ d. d) result (Ok streams) }
     // Which damage it is.
     ensures exact { Tells directory_damage (λ d. d) result (reading s.now [] bytes.now) }
 {
@@ -42,7 +43,8 @@ pub fn read_directory_behind(
     ensures found { IfOk result (IsDirectory s.now earlier.now) }
     ensures spelled { IfOk result (Spells s.now.block bytes.now) }
     ensures only { (streams : List (Option StreamBlocks)) → IsDirectory s.now earlier.now streams
-        → Spells s.now.block bytes.now streams → Tells directory_damage (λ d. d) result (Ok streams) }
+        → Spells s.now.block bytes.now streams
+        → Tells directory_damage (λ d. d) result (Ok streams) }
     ensures exact { Tells directory_damage (λ d. d) result (reading s.now earlier.now bytes.now) }
 {
     read_parts(alloc, bytes, s, earlier)
@@ -77,7 +79,8 @@ fn directory_of(
 ) -> Result<Vec<Option<Stream>>, AllocError>
     requires size { IsBlockSize block_size }
     requires enough { sum_by (block_count block_size) (drop 1 sizes.now) ≤ length numbers.now }
-    ensures { IfOk result (λ streams. streams.items ≡ directory_of block_size sizes.now numbers.now) }
+    ensures { IfOk result (λ streams. streams.items
+        ≡ directory_of block_size sizes.now numbers.now) }
 {
     let mut streams = Vec::with_capacity(alloc, sizes.len())?;
     if let Some((first, others)) = sizes.split_first() {
@@ -107,7 +110,8 @@ fn push_streams(
 ) -> Result<(), AllocError>
     requires size { IsBlockSize block_size }
     requires enough { sum_by (block_count block_size) sizes.now ≤ length numbers.now }
-    ensures { OnOk result (streams.new.items ≡ streams.old.items ++ streams_of block_size sizes.now numbers.now) }
+    ensures { OnOk result (streams.new.items ≡ streams.old.items
+        ++ streams_of block_size sizes.now numbers.now) }
 {
     let mut rest = numbers;
     for size in sizes {

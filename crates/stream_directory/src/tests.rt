@@ -88,7 +88,11 @@ fn first_faults(rt: HostRuntime) -> Result<(), Fail> {
         let mut bytes = NEW_FILE;
         assert!(rt; place <= 48);
         bytes[place..place + 4].copy_from_slice(&number);
-        assert_eq!(rt; fault_of(rt.alloc(), &bytes, &s), Some(DirFault::Damage(damage)), "at {place}");
+        assert_eq!(rt;
+            fault_of(rt.alloc(), &bytes, &s),
+            Some(DirFault::Damage(damage)),
+            "at {place}"
+        );
     }
     Ok(())
 }

@@ -1,4 +1,4 @@
-use Rattle.std.proofs.Common.{◌≡◌, ℕ, false, All, OnOk, Vec, Global, ap, subst, sym, ◌∙◌}
+use Rattle.std.proofs.Common.{◌≡◌, false, All, OnOk, ap, subst, sym, ◌∙◌}
 use Rattle.free_page_maps.specs.FreeBlocks.{is_free}
 use Rattle.stream_directory.specs.Directory.{IsDirectory}
 use Rattle.msf_image.specs.declared.image.Image.{Image}
