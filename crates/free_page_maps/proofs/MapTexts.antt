@@ -1,17 +1,17 @@
 -- The text of a map has the bits that it should have, and is read again as the same map.
-use Rattle.std.proofs.Common.{◌≡◌, ◌≤◌, ◌<◌, ◌+◌, ◌-◌, ◌*◌, ◌/◌, ◌%◌, ◌^◌, ◌||◌, ◌&&◌, not, ℕ, zero, suc, Bool, true, false, List, [], ◌∷◌, ◌++◌, get_or, map, take, All, refl, ap, sym, ◌∙◌, lit<, bit_or, inl, inr, arith, eqb, leb, cond}
+use Rattle.std.proofs.Common.{◌≡◌, ◌≤◌, ◌<◌, ◌+◌, ◌-◌, ◌*◌, ◌/◌, ◌%◌, ◌^◌, ◌||◌, ◌&&◌, not, ℕ, zero, suc, Bool, true, false, List, [], ◌∷◌, ◌++◌, get_or, length, map, take, All, refl, ap, sym, ◌∙◌, lit<, bit_or, inl, inr, arith, eqb, leb, cond}
 use Rattle.std.specs.Int.{bit_at}
 use Rattle.std.specs.List.{list_any, range_with_len}
 use Rattle.std.proofs.lemmas.Bool.{agree_below_at, cases_lt, cases_Bool, le-leb, lt-leb, and_from, not_from_false, false_from_ne_true, eqb-true}
 use Rattle.std.proofs.lemmas.List.{get_or-take}
 use Rattle.std.proofs.lemmas.Nat.{div-add-mod', mod_below, or_of_8}
 use Rattle.std.proofs.lemmas.List.Elements.{All-head, All-tail}
-use Rattle.std.proofs.lemmas.List.FromFn.{get_or-map-range_with_len, map-range_with_len_more}
+use Rattle.std.proofs.lemmas.List.FromFn.{get_or-map-range_with_len, length-map-range_with_len, map-range_with_len_more}
 use Rattle.std.proofs.lemmas.Nat.Bits.{bit_at_lowest, bit_at-suc, bit_at-lt, same_from_bits_below}
 use Rattle.msf_blocks.specs.Bits.{has_bit}
 use Rattle.msf_blocks.specs.Blocks.{IsReserved, is_reserved, map_blocks}
 use Rattle.msf_blocks.proofs.Numbers.{AreBytes}
-use Rattle.free_page_maps.specs.FreeBlocks.{below_where, free_in, is_free}
+use Rattle.free_page_maps.specs.FreeBlocks.{FreeBlocks, below_where, free_in, is_free, unreserved_where}
 use Rattle.free_page_maps.specs.MapText.{map_bit, map_text, number_where}
 use Rattle.free_page_maps.proofs.Listing.{below_where-same, is_free-below_where}
 use Rattle.free_page_maps.proofs.Masks.{filled_bit}
@@ -151,6 +151,11 @@ padded-map_text block_size n bits =
     map_same (λ i. number_where 8 (λ k. padded_bit n bits (8 * i + k))) (λ i. number_where 8 (λ k. map_bit (record { blocks = n; free = below_where n (has_bit bits) }) (8 * i + k)))
     (λ i. number_where-same 8 (λ k. padded_bit n bits (8 * i + k)) (λ k. map_bit (record { blocks = n; free = below_where n (has_bit bits) }) (8 * i + k)) (λ k. sym (map_bit-is bits n (8 * i + k)))) (range_with_len 0 (map_blocks block_size n * block_size))
 
+-- a test as a bit
+as_test : (t : Bool) → eqb (cond t 1 0) 1 ≡ t
+as_test true = refl
+as_test false = refl
+
 -- the bits of the padded bytes
 padded-has_bit : (n m : ℕ) (bits : List ℕ) (b : ℕ) → b < 8 * m → has_bit (padded_text n bits m) b ≡ padded_bit n bits b
 padded-has_bit n m bits b lt =
@@ -160,10 +165,6 @@ padded-has_bit n m bits b lt =
     let byte = get_or-map-range_with_len f 0 m i i 0 (omega (arith, lt)) (omega arith) in
     let place : 8 * i + k ≡ b = omega arith in
     ap (λ x. eqb (bit_at x k) 1) byte ∙ ap (λ x. eqb x 1) (bit_at-number_where 8 (λ k. padded_bit n bits (8 * i + k)) k (omega arith)) ∙ as_test (padded_bit n bits (8 * i + k)) ∙ ap (padded_bit n bits) place
-  where
-    as_test : (t : Bool) → eqb (cond t 1 0) 1 ≡ t
-    as_test true = refl
-    as_test false = refl
 
 -- the meaningful blocks of a map have a bit for each block
 pub map_blocks-enough : (block_size n : ℕ) → 0 < block_size → n ≤ 8 * (map_blocks block_size n * block_size)
@@ -183,3 +184,34 @@ text_and_again block_size n bits maps pos all is =
       free_in-again block_size n bits maps all
           (λ b lt. ap (λ xs. has_bit xs b) is ∙ padded-has_bit n (map_blocks block_size n * block_size) bits b (omega (arith, enough, lt))),
     )
+
+-- ---- the text of any map
+
+pub length-map_text : (block_size : ℕ) (m : FreeBlocks) → length (map_text block_size m) ≡ map_blocks block_size m.blocks * block_size
+unfolding map_text
+length-map_text block_size m = length-map-range_with_len (λ i. number_where 8 (λ k. map_bit m (8 * i + k))) 0 (map_blocks block_size m.blocks * block_size)
+
+pub has_bit-map_text : (block_size : ℕ) (m : FreeBlocks) (b : ℕ) → 0 < block_size → b < m.blocks → has_bit (map_text block_size m) b ≡ is_free m b
+unfolding map_text
+has_bit-map_text block_size m b pos lt =
+    let f = λ (i : ℕ). number_where 8 (λ k. map_bit m (8 * i + k)) in
+    let i = b / 8 in
+    let k = b % 8 in
+    let enough = map_blocks-enough block_size m.blocks pos in
+    let byte = get_or-map-range_with_len f 0 (map_blocks block_size m.blocks * block_size) i i 0 (omega (arith, enough, lt)) (omega arith) in
+    let place : 8 * i + k ≡ b = omega arith in
+    ap (λ x. eqb (bit_at x k) 1) byte ∙ ap (λ x. eqb x 1) (bit_at-number_where 8 (λ k. map_bit m (8 * i + k)) k (omega arith)) ∙ as_test (map_bit m (8 * i + k)) ∙ ap (map_bit m) place
+    ∙ ap (λ t. t || is_free m b) (lt-leb m.blocks b lt)
+
+-- what is written of a map that a test tells is read again
+pub map_again : (block_size n : ℕ) (test : ℕ → Bool) → 0 < block_size → free_in block_size n (map_text block_size (unreserved_where block_size n test)) ≡ unreserved_where block_size n test
+map_again block_size n test pos =
+    let m = unreserved_where block_size n test in
+    let unreserved = λ (b : ℕ). not (is_reserved block_size b) in
+    ap (λ free. record { blocks = n; free = free })
+    (below_where-same n (λ b. unreserved b && has_bit (map_text block_size m) b) (λ b. unreserved b && test b)
+    (λ b lt. ap (λ t. unreserved b && t) (has_bit-map_text block_size m b pos lt ∙ is_free-below_where n (λ b. unreserved b && test b) b lt) ∙ twice (unreserved b) (test b)))
+  where
+    twice : (t u : Bool) → (t && (t && u)) ≡ (t && u)
+    twice true u = refl
+    twice false u = refl

@@ -25,7 +25,11 @@ impl Model for FreeMap {
 
     ghost Value = { FreeBlocks };
 
-    ghost view = { λ m. record { blocks = m.blocks; free = below_where m.blocks (has_bit m.bits.items) } };
+    ghost view = { λ m. record {
+      blocks = m.blocks;
+      free = below_where m.blocks
+          (has_bit m.bits.items);
+    } };
 
     ghost invariant = { λ m. vec_len m.bits ≡ (m.blocks + 7) / 8 };
 }
@@ -66,7 +70,8 @@ impl FreeMap {
         requires unreserved { All (λ b. ¬ IsReserved block_size b) self.now.free }
         ensures text { IfOk result (λ maps. maps.items ≡ map_text block_size self.now) }
         // What is written is read again as the same map.
-        ensures again { IfOk result (λ maps. free_in block_size self.now.blocks maps.items ≡ self.now) }
+        ensures again { IfOk result
+            (λ maps. free_in block_size self.now.blocks maps.items ≡ self.now) }
     {
         let bytes = map_blocks(block_size, self.blocks) as usize * block_size as usize;
         let maps = padded(alloc, &self.bits, self.blocks, bytes)?;
@@ -104,7 +109,8 @@ impl FreeMap {
 
     /// The least free block from a block on.
     pub fn lowest_free(&self, from: u32) -> Option<u32>
-        ensures { MatchOption result ((b : ℕ) → from ≤ b → is_free self.now b ≡ false) (IsLeastFree self.now from) }
+        ensures { MatchOption result ((b : ℕ) → from ≤ b → is_free self.now b ≡ false)
+            (IsLeastFree self.now from) }
     {
         let blocks = u64::from(self.blocks);
         match lowest_bit(&self.bits, from) {

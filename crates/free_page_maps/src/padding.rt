@@ -8,7 +8,9 @@ use std::alloc::{AllocError, Global};
 /// So many bytes: the bits below a number of blocks as they stand, and ones from there on.
 pub fn padded(alloc: Global, bits: &[u8], blocks: u32, bytes: usize) -> Result<Vec<u8>, AllocError>
     requires { blocks ≤ 8 * length bits.now }
-    ensures { IfOk result (λ maps. maps.items ≡ map (λ i. number_where 8 (λ k. nat_le blocks (8 * i + k) || has_bit bits.now (8 * i + k))) (range_with_len 0 bytes)) }
+    ensures { IfOk result (λ maps. maps.items ≡ map
+        (λ i. number_where 8 (λ k. nat_le blocks (8 * i + k) || has_bit bits.now (8 * i + k)))
+        (range_with_len 0 bytes)) }
 {
     let mut maps = Vec::with_capacity(alloc, bytes)?;
     for i in 0..bytes {
@@ -20,7 +22,8 @@ pub fn padded(alloc: Global, bits: &[u8], blocks: u32, bytes: usize) -> Result<V
 // One byte of them.
 fn padded_byte(bits: &[u8], blocks: u32, i: usize) -> u8
     requires { blocks ≤ 8 * length bits.now }
-    ensures { result ≡ number_where 8 (λ k. nat_le blocks (8 * i + k) || has_bit bits.now (8 * i + k)) }
+    ensures { result
+        ≡ number_where 8 (λ k. nat_le blocks (8 * i + k) || has_bit bits.now (8 * i + k)) }
 {
     let whole = (blocks / 8) as usize;
     let rest = blocks % 8;

@@ -6,7 +6,8 @@ ghost use Rattle.msf_blocks.specs.Blocks.{IsBlockSize, is_reserved};
 /// Makes the bits of all reserved blocks 0.
 pub fn clear_reserved(bits: &mut [u8], block_size: u32)
     requires { IsBlockSize block_size }
-    ensures { (b : ℕ) → has_bit bits.new b ≡ (not (is_reserved block_size b) && has_bit bits.old b) }
+    ensures { (b : ℕ)
+        → has_bit bits.new b ≡ (not (is_reserved block_size b) && has_bit bits.old b) }
 {
     for (i, byte) in bits.iter_mut().enumerate() {
         *byte &= unreserved_mask(block_size, i);

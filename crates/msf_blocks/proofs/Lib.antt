@@ -1,5 +1,6 @@
 pub mod BitWrites
 pub mod Numbers
 pub mod Sizes
+pub mod Judging
 pub mod Passing
 pub mod SuperblockTexts

@@ -1,19 +1,13 @@
 -- A superblock passes every test exactly where its numbers are those of a superblock.
-use Rattle.std.proofs.Common.{◌≡◌, ◌≤◌, ◌<◌, ◌*◌, ◌/◌, ◌^◌, ◌&&◌, ◌||◌, not, ℕ, Bool, true, false, List, [], ◌∷◌, Some, None, refl, ap, ◌∙◌, arith, cond, eqb, leb, ltb, inl, inr}
+use Rattle.std.proofs.Common.{◌≡◌, ◌≤◌, ◌<◌, ◌*◌, ◌/◌, ◌^◌, ◌&&◌, ◌||◌, not, ℕ, Bool, true, List, [], ◌∷◌, None, refl, eqb, leb, ltb, inl, inr}
 use Rattle.std.proofs.lemmas.Bool.{leb-true, le-leb, ltb-true, lt-ltb, eqb-true, eq-eqb, and_parts, and_from, or_cases, or_left, or_right, not-true, not_from_false, false_from_ne_true, both_ways}
 use Rattle.msf_blocks.specs.declared.superblock.Super.{Super}
 use Rattle.msf_blocks.specs.declared.superblock.SuperFault.{SuperFault}
 use Rattle.msf_blocks.specs.declared.superblock.SuperFault.TheVariants.{BlockSize, FreeMap, Blocks, Directory, MapAddr}
 use Rattle.msf_blocks.specs.Blocks.{is_block_size, is_reserved, IsMap}
-use Rattle.msf_blocks.specs.Superblock.{IsSuper, first_fault, has_blocks, has_directory, has_map_addr, number_tests}
-
--- one test more
-pub was_passed : (b : Bool) (f : SuperFault) (tests : List (Bool × SuperFault)) → first_fault ((b, f) ∷ tests) ≡ None → (b ≡ true) × (first_fault tests ≡ None)
-was_passed true f tests e = (refl, e)
-was_passed false f tests e = absurd cc
-
-pub is_passed : (b : Bool) (f : SuperFault) (tests : List (Bool × SuperFault)) → b ≡ true → first_fault tests ≡ None → first_fault ((b, f) ∷ tests) ≡ None
-is_passed b f tests e h = ap (λ c. cond c (first_fault tests) (Some f)) e ∙ h
+use Rattle.msf_blocks.specs.Judging.{first_damage}
+use Rattle.msf_blocks.specs.Superblock.{IsSuper, has_blocks, has_directory, has_map_addr, number_tests}
+use Rattle.msf_blocks.proofs.Judging.{is_passed, was_passed}
 
 map_from_test : (map : ℕ) → (eqb map 1 || eqb map 2) ≡ true → IsMap map
 map_from_test map e =
@@ -29,7 +23,7 @@ pub record Leaves (s : Super) (file_len limit : ℕ) : Type 0 where
   pub limited : s.blocks ≤ limit
   pub inside : s.blocks * s.block ≤ file_len
 
-pub leaves : (s : Super) (file_len limit : ℕ) → limit < 2 ^ 32 → s.unknown < 2 ^ 32 → first_fault (number_tests s file_len limit) ≡ None → Leaves s file_len limit
+pub leaves : (s : Super) (file_len limit : ℕ) → s.blocks < 2 ^ 32 → s.unknown < 2 ^ 32 → first_damage (number_tests s file_len limit) ≡ None → Leaves s file_len limit
 leaves s file_len limit few fits e =
     let t5 : List (Bool × SuperFault) = [] in
     let t4 : List (Bool × SuperFault) = (has_map_addr s, MapAddr) ∷ t5 in
@@ -51,7 +45,7 @@ leaves s file_len limit few fits e =
         block = a.0;
         map = map_from_test s.map b.0;
         least_blocks = leb-true 4 s.blocks counted.0;
-        blocks_fit = omega (arith, few, limited);
+        blocks_fit = few;
         least_dir_bytes = leb-true 4 s.dir_bytes dir.0;
         most_dir_bytes = leb-true s.dir_bytes (s.block * s.block / 4) dir.1;
         unknown_fits = fits;
@@ -62,7 +56,7 @@ leaves s file_len limit few fits e =
       inside = leb-true (s.blocks * s.block) file_len blocks.1;
     }
 
-pub all_passed : (s : Super) (file_len limit : ℕ) → IsSuper s → s.blocks ≤ limit → s.blocks * s.block ≤ file_len → first_fault (number_tests s file_len limit) ≡ None
+pub all_passed : (s : Super) (file_len limit : ℕ) → IsSuper s → s.blocks ≤ limit → s.blocks * s.block ≤ file_len → first_damage (number_tests s file_len limit) ≡ None
 all_passed s file_len limit is limited inside =
     let t5 : List (Bool × SuperFault) = [] in
     let t4 : List (Bool × SuperFault) = (has_map_addr s, MapAddr) ∷ t5 in

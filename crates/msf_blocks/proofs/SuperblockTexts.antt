@@ -1,5 +1,5 @@
 -- The superblock: what is read was written so, and what is written is read again.
-use Rattle.std.proofs.Common.{◌≡◌, ◌≤◌, ◌<◌, ◌+◌, ◌*◌, ◌^◌, ◌&&◌, ℕ, true, List, [], ◌++◌, None, Result, Ok, Err, length, take, drop, refl, sym, ap, subst, ◌∙◌, arith, leb, nat_eq, lit≤, inl, inr}
+use Rattle.std.proofs.Common.{◌≡◌, ◌≤◌, ◌<◌, ◌+◌, ◌*◌, ◌^◌, ◌&&◌, ℕ, true, List, [], ◌++◌, Some, None, Result, Ok, Err, length, take, drop, refl, sym, ap, subst, ◌∙◌, arith, cond, leb, nat_eq, lit≤, inl, inr}
 use Rattle.std.specs.Prelude.{IfOk}
 use Rattle.std.specs.List.{starts_with}
 use Rattle.std.proofs.lemmas.Bool.{leb-true, le-leb, and_parts, and_from}
@@ -11,10 +11,12 @@ use Rattle.byteorder.specs.Endian.{little_bytes, little_number}
 use Rattle.msf_blocks.specs.declared.superblock.Super.{Super}
 use Rattle.msf_blocks.specs.declared.superblock.SuperFault.{SuperFault}
 use Rattle.msf_blocks.specs.declared.superblock.SuperFault.TheVariants.{Magic}
-use Rattle.msf_blocks.specs.Superblock.{Answers, IsSuper, first_fault, magic, has_magic, number_tests, numbers_of, superblock_tests, superblock_text}
+use Rattle.msf_blocks.specs.Judging.{first_damage, unless}
+use Rattle.msf_blocks.specs.Superblock.{IsSuper, magic, has_magic, number_tests, numbers_of, superblock_tests, superblock_text, superblock_told}
 use Rattle.msf_blocks.proofs.Numbers.{AreBytes, AreBytes-drop, little_number-lt, little_bytes-little_number, little_number-little_bytes, take_further}
 use Rattle.msf_blocks.proofs.Sizes.{IsBlockSize-le, IsBlockSize-ge, IsSuper-dir_bytes-lt}
-use Rattle.msf_blocks.proofs.Passing.{was_passed, is_passed, leaves, all_passed}
+use Rattle.msf_blocks.proofs.Judging.{is_passed, unless_err, unless_ok, was_passed}
+use Rattle.msf_blocks.proofs.Passing.{leaves, all_passed}
 
 -- what a front with the magic is
 pub record Begins (bytes : List ℕ) (file_len : ℕ) : Type 0 where
@@ -79,22 +81,28 @@ pub record Found (bytes : List ℕ) (file_len limit : ℕ) (s : Super) : Type 0 
   pub limited : s.blocks ≤ limit
   pub inside : s.blocks * s.block ≤ file_len
 
-found_numbers : (bytes : List ℕ) (file_len limit : ℕ) → AreBytes bytes → limit < 2 ^ 32 → first_fault (superblock_tests bytes file_len limit) ≡ None → Found bytes file_len limit (numbers_of bytes)
-found_numbers bytes file_len limit fits few e =
+found_numbers : (bytes : List ℕ) (file_len limit : ℕ) → AreBytes bytes → first_damage (superblock_tests bytes file_len limit) ≡ None → Found bytes file_len limit (numbers_of bytes)
+found_numbers bytes file_len limit fits e =
     let s = numbers_of bytes in
     let a = was_passed (has_magic bytes file_len) Magic (number_tests s file_len limit) e in
+    let blocks = little_number-lt (drop 40 bytes) (AreBytes-drop 40 bytes fits) in
     let unknown = little_number-lt (drop 48 bytes) (AreBytes-drop 48 bytes fits) in
-    let l = leaves s file_len limit few unknown a.1 in
+    let l = leaves s file_len limit blocks unknown a.1 in
     record { is_super = l.is_super; text = text_of_numbers bytes file_len fits (begins bytes file_len a.0); limited = l.limited; inside = l.inside }
 
--- The answer at a superblock or at a fault.
-pub found : (bytes : List ℕ) (file_len limit : ℕ) (r : Result Super SuperFault) (P : Super → Type 0) → AreBytes bytes → limit < 2 ^ 32 → Answers r bytes file_len limit
+-- the answer at a superblock
+pub found_ok : (bytes : List ℕ) (file_len limit : ℕ) (s : Super) → AreBytes bytes → superblock_told bytes file_len limit ≡ Ok s → Found bytes file_len limit s
+found_ok bytes file_len limit s fits e =
+    let is = unless_ok (first_damage (superblock_tests bytes file_len limit)) (numbers_of bytes) s e in
+    subst (Found bytes file_len limit) is.1 (found_numbers bytes file_len limit fits is.0)
+
+pub found : (bytes : List ℕ) (file_len limit : ℕ) (r : Result Super SuperFault) (P : Super → Type 0) → AreBytes bytes → r ≡ superblock_told bytes file_len limit
     → ((s : Super) → Found bytes file_len limit s → P s) → IfOk r P
-found bytes file_len limit (Ok s) P fits few h gives = subst P (sym h.1) (gives (numbers_of bytes) (found_numbers bytes file_len limit fits few h.0))
-found bytes file_len limit (Err f) P fits few h gives = tt
+found bytes file_len limit (Ok s) P fits is gives = gives s (found_ok bytes file_len limit s fits (sym is))
+found bytes file_len limit (Err f) P fits is gives = tt
 
 -- what is spelled so passes every test
-pub passes : (bytes : List ℕ) (file_len limit : ℕ) (s : Super) → Found bytes file_len limit s → (first_fault (superblock_tests bytes file_len limit) ≡ None) × (numbers_of bytes ≡ s)
+pub passes : (bytes : List ℕ) (file_len limit : ℕ) (s : Super) → Found bytes file_len limit s → (first_damage (superblock_tests bytes file_len limit) ≡ None) × (numbers_of bytes ≡ s)
 passes bytes file_len limit s f =
     let whole : bytes ≡ superblock_text s ++ drop 56 bytes = sym (take-append-drop 56 bytes) ∙ ap (λ xs. xs ++ drop 56 bytes) f.text in
     let same : numbers_of bytes ≡ s = ap numbers_of whole ∙ numbers_of_text s (drop 56 bytes) f.is_super in
@@ -102,10 +110,24 @@ passes bytes file_len limit s f =
     let begun = begins_of_text bytes file_len s (omega (arith, least, f.inside)) f.text in
     let tests = all_passed s file_len limit f.is_super f.limited f.inside in (
       is_passed (has_magic bytes file_len) Magic (number_tests (numbers_of bytes) file_len limit) begun
-          (subst (λ x. first_fault (number_tests x file_len limit) ≡ None) (sym same) tests),
+          (subst (λ x. first_damage (number_tests x file_len limit) ≡ None) (sym same) tests),
       same,
     )
 
-pub only : (bytes : List ℕ) (file_len limit : ℕ) (r : Result Super SuperFault) (s : Super) → Answers r bytes file_len limit → Found bytes file_len limit s → r ≡ Ok s
-only bytes file_len limit (Ok x) s h f = ap (λ y. Ok y) (h.1 ∙ (passes bytes file_len limit s f).1)
-only bytes file_len limit (Err fault) s h f = let e = (passes bytes file_len limit s f).0 in absurd cc
+pub told_again : (bytes : List ℕ) (file_len limit : ℕ) (s : Super) → Found bytes file_len limit s → superblock_told bytes file_len limit ≡ Ok s
+told_again bytes file_len limit s f =
+    let p = passes bytes file_len limit s f in ap (λ found. unless found (numbers_of bytes)) p.0 ∙ ap Ok p.1
+
+-- what the tests of the numbers tell, behind the magic
+pub judged_ok : {U : Type 0} (u v : U) (bytes : List ℕ) (file_len limit : ℕ) (s : Super) → s ≡ numbers_of bytes → has_magic bytes file_len ≡ true → unless (first_damage (number_tests s file_len limit)) u ≡ Ok v
+    → superblock_told bytes file_len limit ≡ Ok s
+judged_ok u v bytes file_len limit s is begins passed =
+    let none = (unless_ok (first_damage (number_tests s file_len limit)) u v passed).0 in
+    ap (λ found. unless found (numbers_of bytes)) (is_passed (has_magic bytes file_len) Magic (number_tests (numbers_of bytes) file_len limit) begins (subst (λ x. first_damage (number_tests x file_len limit) ≡ None) is none)) ∙ ap Ok (sym is)
+
+pub judged_err : {U : Type 0} (u : U) (bytes : List ℕ) (file_len limit : ℕ) (s : Super) (fault : SuperFault) → s ≡ numbers_of bytes → has_magic bytes file_len ≡ true → unless (first_damage (number_tests s file_len limit)) u ≡ Err fault
+    → superblock_told bytes file_len limit ≡ Err fault
+judged_err u bytes file_len limit s fault is begins failed =
+    let some = unless_err (first_damage (number_tests s file_len limit)) u fault failed in
+    ap (λ t. unless (cond t (first_damage (number_tests (numbers_of bytes) file_len limit)) (Some Magic)) (numbers_of bytes)) begins
+    ∙ ap (λ x. unless (first_damage (number_tests x file_len limit)) (numbers_of bytes)) (sym is) ∙ ap (λ found. unless found (numbers_of bytes)) some

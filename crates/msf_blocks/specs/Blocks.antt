@@ -4,7 +4,7 @@ use Rattle.std.specs.List.{list_any}
 
 -- the sizes that a block may have
 abbrev pub block_sizes : List ℕ
-block_sizes = 512 ∷ 1024 ∷ 2048 ∷ 4096 ∷ []
+block_sizes = 512 ∷ 1024 ∷ 2048 ∷ 4096 ∷ 8192 ∷ 16384 ∷ 32768 ∷ []
 
 abbrev pub is_block_size : ℕ → Bool
 is_block_size n = list_any (λ size. size == n) block_sizes

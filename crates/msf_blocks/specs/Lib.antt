@@ -2,3 +2,4 @@ pub mod Bits
 pub mod Blocks
 pub mod Edit
 pub mod Superblock
+pub mod Judging

@@ -1,10 +1,11 @@
 -- The superblock: the text of its six numbers, and the tests that it has to pass.
-use Rattle.std.specs.Prelude.{◌≡◌, ◌≤◌, ◌<◌, ℕ, ◌*◌, ◌/◌, ◌^◌, ◌==◌, ◌&&◌, ◌||◌, not, nat_eq, nat_lt, nat_le, if◌then◌else◌, Bool, List, [], ◌∷◌, ◌++◌, length, drop, Option, Some, None, Result, MatchResult, codes}
+use Rattle.std.specs.Prelude.{◌≤◌, ◌<◌, ℕ, ◌*◌, ◌/◌, ◌^◌, ◌==◌, ◌&&◌, ◌||◌, not, nat_eq, nat_lt, nat_le, Bool, List, [], ◌∷◌, ◌++◌, length, drop, Result, codes}
 use Rattle.std.specs.List.{starts_with}
 use Rattle.byteorder.specs.Endian.{little_bytes, little_number}
 use Rattle.msf_blocks.specs.declared.superblock.Super.{Super}
 use Rattle.msf_blocks.specs.declared.superblock.SuperFault.{SuperFault}
 use Rattle.msf_blocks.specs.declared.superblock.SuperFault.TheVariants.{Magic, BlockSize, FreeMap, Blocks, Directory, MapAddr}
+use Rattle.msf_blocks.specs.Judging.{first_damage, unless}
 use Rattle.msf_blocks.specs.Blocks.{is_block_size, IsBlockSize, is_reserved, IsReserved, IsMap}
 
 -- the 32 bytes with which the file begins
@@ -51,16 +52,9 @@ number_tests s file_len limit =
 abbrev pub superblock_tests : List ℕ → ℕ → ℕ → List (Bool × SuperFault)
 superblock_tests bytes file_len limit = (has_magic bytes file_len, Magic) ∷ number_tests (numbers_of bytes) file_len limit
 
--- the fault of the first test that is not passed
-abbrev pub first_fault : List (Bool × SuperFault) → Option SuperFault
-first_fault [] = None
-first_fault (test ∷ tests) = if test.0 then first_fault tests else Some test.1
-
--- What reading answers: the numbers where every test is passed, else the fault of the first that is not.
-abbrev pub Answers : Result Super SuperFault → List ℕ → ℕ → ℕ → Type 0
-Answers result bytes file_len limit =
-    MatchResult result (λ s. (first_fault (superblock_tests bytes file_len limit) ≡ None) × (s ≡ numbers_of bytes))
-    (λ fault. first_fault (superblock_tests bytes file_len limit) ≡ Some fault)
+-- the superblock that bytes at the front of a file of this length tell: six numbers, unless they fail a test
+abbrev pub superblock_told : List ℕ → ℕ → ℕ → Result Super SuperFault
+superblock_told bytes file_len limit = unless (first_damage (superblock_tests bytes file_len limit)) (numbers_of bytes)
 
 -- what the tests leave of six numbers, for some length of the file and some limit
 pub record IsSuper (s : Super) : Type 0 where

@@ -2,7 +2,7 @@ ghost use Rattle.std.specs.Prelude.{◌≡◌, ◌+◌, ◌-◌, ◌*◌, ◌/�
 ghost use Rattle.msf_blocks.specs.Blocks.{IsBlockSize, is_block_size, is_reserved, blocks_of_size, block_offset, map_blocks};
 
 // The sizes that a block may have.
-const BLOCK_SIZES: [u32; 4] = [512, 1024, 2048, 4096];
+const BLOCK_SIZES: [u32; 7] = [512, 1024, 2048, 4096, 8192, 16_384, 32_768];
 
 /// Whether a block may have this size. docs/FORMAT.md names the sizes.
 pub fn is_block_size(size: u32) -> bool

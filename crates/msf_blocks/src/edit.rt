@@ -16,7 +16,13 @@ impl Model for Edit {
 
     ghost Value = { StreamEdit };
 
-    ghost view = { λ e. record { stream = e.stream; at = e.at; bytes = e.bytes.items; len = e.len } };
+    ghost view = { λ e. record {
+      stream = e.stream;
+      at = e.at;
+      bytes = e.bytes.items;
+      len =
+          e.len;
+    } };
 }
 
 impl Edit {

@@ -1,5 +1,6 @@
-ghost use Rattle.std.specs.Prelude.{◌≡◌, ◌≤◌, ◌<◌, ◌*◌, ◌/◌, Some, None, Ok, Err, take, length, IsTrue, IfOk, MatchResult};
-ghost use Rattle.msf_blocks.specs.Superblock.{Answers, IsSuper, first_fault, has_magic, number_tests, numbers_of, superblock_text};
+ghost use Rattle.std.specs.Prelude.{◌≡◌, ◌≤◌, ◌<◌, ◌*◌, ◌/◌, Ok, take, length, IsTrue, IfOk};
+ghost use Rattle.msf_blocks.specs.Judging.{first_damage, unless};
+ghost use Rattle.msf_blocks.specs.Superblock.{IsSuper, has_magic, number_tests, numbers_of, superblock_text, superblock_told};
 
 use crate::blocks::{block_offset, is_block_size, reserved};
 use byteorder::{ByteOrder, LittleEndian};
@@ -53,9 +54,10 @@ pub fn read_super(bytes: &[u8], file_len: u64, limit: u32) -> Result<Super, Supe
     ensures limited { IfOk result (λ s. s.blocks ≤ limit) }
     ensures inside { IfOk result (λ s. s.blocks * s.block ≤ file_len) }
     // What is spelled so is read.
-    ensures only { (s : Super) → IsSuper s → take 56 bytes.now ≡ superblock_text s → s.blocks ≤ limit → s.blocks * s.block ≤ file_len → result ≡ Ok s }
+    ensures only { (s : Super) → IsSuper s → take 56 bytes.now ≡ superblock_text s
+        → s.blocks ≤ limit → s.blocks * s.block ≤ file_len → result ≡ Ok s }
     // Which fault it is.
-    ensures exact { Answers result bytes.now file_len limit }
+    ensures exact { result ≡ superblock_told bytes.now file_len limit }
 {
     judged(bytes, file_len, limit)
 }
@@ -78,7 +80,7 @@ pub fn write_super(s: &Super) -> [u8; 56]
 
 // The six numbers, or the first test that they fail.
 fn judged(bytes: &[u8], file_len: u64, limit: u32) -> Result<Super, SuperFault>
-    ensures { Answers result bytes.now file_len limit }
+    ensures { result ≡ superblock_told bytes.now file_len limit }
 {
     if !begins_well(bytes, file_len) {
         return Err(SuperFault::Magic);
@@ -114,7 +116,7 @@ fn numbers_of(bytes: &[u8]) -> Super
 
 // The tests of the six numbers in their order.
 fn judge(s: &Super, file_len: u64, limit: u32) -> Result<(), SuperFault>
-    ensures { MatchResult result (λ _. first_fault (number_tests s.now file_len limit) ≡ None) (λ fault. first_fault (number_tests s.now file_len limit) ≡ Some fault) }
+    ensures { result ≡ unless (first_damage (number_tests s.now file_len limit)) tt }
 {
     if !is_block_size(s.block) {
         return Err(SuperFault::BlockSize);

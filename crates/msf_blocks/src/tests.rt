@@ -31,7 +31,8 @@ fn first_faults(rt: HostRuntime) {
     let cases = [
         (0, 0x4e, Magic),
         (31, 1, Magic),
-        (33, 0x20, BlockSize),
+        (33, 0x30, BlockSize),
+        (34, 0x01, BlockSize),
         (33, 0, BlockSize),
         (36, 0, FreeMap),
         (36, 3, FreeMap),
@@ -72,8 +73,13 @@ fn short_files(rt: HostRuntime) {
 
 #[test]
 fn blocks(rt: HostRuntime) {
-    assert!(rt; is_block_size(512));
-    assert!(rt; !is_block_size(8192));
+    let sizes = [512, 1024, 2048, 4096, 8192, 16_384, 32_768];
+    for size in sizes {
+        assert!(rt; is_block_size(size), "{size}");
+    }
+    for size in [0, 256, 513, 1536, 65_536] {
+        assert!(rt; !is_block_size(size), "{size}");
+    }
     for (b, is) in [
         (0, true),
         (1, true),
@@ -93,6 +99,7 @@ fn blocks(rt: HostRuntime) {
     assert_eq!(rt; map_blocks(512, 4096), 1);
     assert_eq!(rt; map_blocks(512, 4097), 2);
     assert_eq!(rt; block_offset(4096, 1 << 20), 1 << 32);
+    assert_eq!(rt; block_offset(32_768, u32::MAX), 0x7fff_ffff_8000);
 }
 
 #[test]

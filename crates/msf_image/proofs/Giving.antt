@@ -1,25 +1,11 @@
 -- The blocks that are given: in order, none of them reserved, and every one of them.
-use Rattle.std.proofs.Common.{◌≡◌, ◌≤◌, ◌<◌, ◌+◌, ◌-◌, ◌*◌, ◌/◌, ◌%◌, ◌||◌, ℕ, Bool, true, false, [], ◌∷◌, refl, sym, ap, subst, ◌∙◌, inl, inr, eqb, arith}
-use Rattle.std.specs.List.{list_any}
-use Rattle.std.proofs.lemmas.Bool.{or_cases, eq-eqb, eqb-true, ne_eqb, both_ways}
+use Rattle.std.proofs.Common.{◌≡◌, ◌≤◌, ◌<◌, ◌+◌, ◌-◌, ◌*◌, ◌/◌, ◌%◌, ◌||◌, ℕ, Bool, true, false, ◌⊎◌, refl, sym, ap, subst, ◌∙◌, inl, inr, eqb, arith}
+use Rattle.std.proofs.lemmas.Bool.{cases_eq, cases_lt, eq-eqb, ne_eqb, both_ways}
+use Rattle.std.proofs.lemmas.Nat.{div-add-mod', div-mul-add, div_below, mod-mul-add, mod_below}
+use Rattle.std.proofs.Math.Nat.{lt-div-mul-add, suc-mul}
 use Rattle.msf_blocks.specs.Blocks.{IsBlockSize, IsReserved, is_reserved}
+use Rattle.msf_blocks.proofs.Sizes.{sized}
 use Rattle.msf_image.specs.Packed.{given, given_before}
-
--- what holds at each of the four sizes
-pub at_each : (P : ℕ → Type 0) → P 512 → P 1024 → P 2048 → P 4096 → (n : ℕ) → IsBlockSize n → P n
-at_each P a b c d n h =
-    elim (or_cases (eqb 512 n) (list_any (λ size. eqb size n) (1024 ∷ 2048 ∷ 4096 ∷ [])) h) [
-      | inl is ↦ subst P (eqb-true 512 n is) a
-      | inr h1 ↦
-          elim (or_cases (eqb 1024 n) (list_any (λ size. eqb size n) (2048 ∷ 4096 ∷ [])) h1) [
-            | inl is ↦ subst P (eqb-true 1024 n is) b
-            | inr h2 ↦
-                elim (or_cases (eqb 2048 n) (list_any (λ size. eqb size n) (4096 ∷ [])) h2) [
-                  | inl is ↦ subst P (eqb-true 2048 n is) c
-                  | inr h3 ↦ elim (or_cases (eqb 4096 n) (list_any (λ size. eqb size n) []) h3) [ inl is ↦ subst P (eqb-true 4096 n is) d | inr never ↦ absurd (both_ways false refl never) ]
-                ]
-          ]
-    ]
 
 -- where the k-th given block stands
 pub record IsGiven (size k b : ℕ) : Type 0 where
@@ -28,24 +14,40 @@ pub record IsGiven (size k b : ℕ) : Type 0 where
   pub not_two : b % size ≡ 2 → ⊥
   pub number : b - 3 - 2 * ((b - 1) / size) ≡ k
 
-given_at : (size : ℕ) → IsBlockSize size → (k : ℕ) → IsGiven size k (3 + k + 2 * (k / (size - 2)))
-given_at = at_each (λ size. (k : ℕ) → IsGiven size k (3 + k + 2 * (k / (size - 2)))) a b c d
-  where
-    a : (k : ℕ) → IsGiven 512 k (3 + k + 2 * (k / 510))
-    a k = record { least = omega arith; not_one = λ e. omega (arith, e); not_two = λ e. omega (arith, e); number = omega arith }
+-- the block at a place of a run, of which the first two are for the maps
+given_in_run : (n run place b : ℕ) → 0 < n → place < n → b ≡ run * (n + 2) + (place + 3) → IsGiven (n + 2) (run * n + place) b
+given_in_run n run place b some lt at =
+    let before : b - 1 ≡ run * (n + 2) + (place + 2) = omega (arith, at) in
+    let number : (b - 1) / (n + 2) ≡ run = ap (λ m. m / (n + 2)) before ∙ div-mul-add run (n + 2) (place + 2) (omega (arith, lt)) in
+    let above : (b % (n + 2) ≡ 0) ⊎ (b % (n + 2) ≡ place + 3) =
+    elim (cases_lt (place + 3) (n + 2)) [
+      | inl inside ↦ inr (ap (λ m. m % (n + 2)) at ∙ mod-mul-add run (n + 2) (place + 3) inside)
+      | inr next ↦
+          let whole : b ≡ (run + 1) * (n + 2) + 0 = omega (arith, at, next, lt) in
+          inl (ap (λ m. m % (n + 2)) whole ∙ mod-mul-add (run + 1) (n + 2) 0 (omega arith))
+    ]
+    in
+    record {
+      least = omega (arith, at);
+      not_one = λ e. elim above [ inl zero ↦ absurd (omega (arith, zero, e)) | inr more ↦ absurd (omega (arith, more, e)) ];
+      not_two = λ e. elim above [ inl zero ↦ absurd (omega (arith, zero, e)) | inr more ↦ absurd (omega (arith, more, e)) ];
+      number = omega (arith, at, number);
+    }
 
-    b : (k : ℕ) → IsGiven 1024 k (3 + k + 2 * (k / 1022))
-    b k = record { least = omega arith; not_one = λ e. omega (arith, e); not_two = λ e. omega (arith, e); number = omega arith }
+given_at : (n k : ℕ) → 0 < n → IsGiven (n + 2) k (3 + k + 2 * (k / n))
+given_at n k some =
+    let split : k / n * n + k % n ≡ k = div-add-mod' k n in
+    let at : 3 + k + 2 * (k / n) ≡ k / n * (n + 2) + (k % n + 3) = omega (arith, split) in
+    subst (λ j. IsGiven (n + 2) j (3 + k + 2 * (k / n))) split (given_in_run n (k / n) (k % n) (3 + k + 2 * (k / n)) some (mod_below k n some) at)
 
-    c : (k : ℕ) → IsGiven 2048 k (3 + k + 2 * (k / 2046))
-    c k = record { least = omega arith; not_one = λ e. omega (arith, e); not_two = λ e. omega (arith, e); number = omega arith }
-
-    d : (k : ℕ) → IsGiven 4096 k (3 + k + 2 * (k / 4094))
-    d k = record { least = omega arith; not_one = λ e. omega (arith, e); not_two = λ e. omega (arith, e); number = omega arith }
+-- a size without the two blocks of the maps in each run
+two_more : (size : ℕ) → IsBlockSize size → size - 2 + 2 ≡ size
+two_more size h = omega (arith, (sized size h).least)
 
 pub given_is : (size k : ℕ) → IsBlockSize size → IsGiven size k (given size k)
 unfolding given
-given_is size k h = given_at size h k
+given_is size k h =
+    subst (λ n. IsGiven n k (3 + k + 2 * (k / (size - 2)))) (two_more size h) (given_at (size - 2) k (omega (arith, (sized size h).least)))
 
 pub given_before_given : (size k : ℕ) → IsBlockSize size → given_before size (given size k) ≡ k
 unfolding given_before
@@ -61,24 +63,13 @@ given_unreserved size k h =
     ap (λ t. t || eqb (given size k % size) 1 || eqb (given size k % size) 2) zero_no ∙ ap (λ t. false || t || eqb (given size k % size) 2) one_no ∙ ap (λ t. false || false || t) two_no
 
 -- they rise
-no_earlier_at : (size : ℕ) → IsBlockSize size → (j k : ℕ) → j ≤ k → 3 + j + 2 * (j / (size - 2)) ≤ 3 + k + 2 * (k / (size - 2))
-no_earlier_at = at_each (λ size. (j k : ℕ) → j ≤ k → 3 + j + 2 * (j / (size - 2)) ≤ 3 + k + 2 * (k / (size - 2))) a b c d
-  where
-    a : (j k : ℕ) → j ≤ k → 3 + j + 2 * (j / 510) ≤ 3 + k + 2 * (k / 510)
-    a j k le = omega arith
-
-    b : (j k : ℕ) → j ≤ k → 3 + j + 2 * (j / 1022) ≤ 3 + k + 2 * (k / 1022)
-    b j k le = omega arith
-
-    c : (j k : ℕ) → j ≤ k → 3 + j + 2 * (j / 2046) ≤ 3 + k + 2 * (k / 2046)
-    c j k le = omega arith
-
-    d : (j k : ℕ) → j ≤ k → 3 + j + 2 * (j / 4094) ≤ 3 + k + 2 * (k / 4094)
-    d j k le = omega arith
-
 pub no_earlier : (size j k : ℕ) → IsBlockSize size → j ≤ k → given size j ≤ given size k
 unfolding given
-no_earlier size j k h le = no_earlier_at size h j k le
+no_earlier size j k h le =
+    let some : 0 < size - 2 = omega (arith, (sized size h).least) in
+    let next : k < k / (size - 2) * (size - 2) + (size - 2) = lt-div-mul-add some in
+    let runs : j / (size - 2) < k / (size - 2) + 1 = div_below j (size - 2) (k / (size - 2) + 1) some (omega (arith, le, next, suc-mul (k / (size - 2)) (size - 2))) in
+    omega (arith, le, runs)
 
 -- no two of them are one
 pub given_once : (size j k : ℕ) → IsBlockSize size → given size j ≡ given size k → j ≡ k
@@ -91,25 +82,37 @@ rises size j k h lt =
     omega (arith, le, apart)
 
 -- and none is left out
-found_at : (size : ℕ) → IsBlockSize size → (b : ℕ) → 3 ≤ b → (b % size ≡ 1 → ⊥) → (b % size ≡ 2 → ⊥) → 3 + (b - 3 - 2 * ((b - 1) / size)) + 2 * ((b - 3 - 2 * ((b - 1) / size)) / (size - 2)) ≡ b
-found_at = at_each (λ size. (b : ℕ) → 3 ≤ b → (b % size ≡ 1 → ⊥) → (b % size ≡ 2 → ⊥) → 3 + (b - 3 - 2 * ((b - 1) / size)) + 2 * ((b - 3 - 2 * ((b - 1) / size)) / (size - 2)) ≡ b) one two three four
-  where
-    one : (b : ℕ) → 3 ≤ b → (b % 512 ≡ 1 → ⊥) → (b % 512 ≡ 2 → ⊥) → 3 + (b - 3 - 2 * ((b - 1) / 512)) + 2 * ((b - 3 - 2 * ((b - 1) / 512)) / 510) ≡ b
-    one b least first second = omega (arith, least, first, second)
+found_in_run : (n run place b : ℕ) → 0 < n → place < n → b ≡ run * (n + 2) + (place + 3) → 3 + (run * n + place) + 2 * ((run * n + place) / n) ≡ b
+found_in_run n run place b some lt at = omega (arith, at, div-mul-add run n place lt)
 
-    two : (b : ℕ) → 3 ≤ b → (b % 1024 ≡ 1 → ⊥) → (b % 1024 ≡ 2 → ⊥) → 3 + (b - 3 - 2 * ((b - 1) / 1024)) + 2 * ((b - 3 - 2 * ((b - 1) / 1024)) / 1022) ≡ b
-    two b least first second = omega (arith, least, first, second)
-
-    three : (b : ℕ) → 3 ≤ b → (b % 2048 ≡ 1 → ⊥) → (b % 2048 ≡ 2 → ⊥) → 3 + (b - 3 - 2 * ((b - 1) / 2048)) + 2 * ((b - 3 - 2 * ((b - 1) / 2048)) / 2046) ≡ b
-    three b least first second = omega (arith, least, first, second)
-
-    four : (b : ℕ) → 3 ≤ b → (b % 4096 ≡ 1 → ⊥) → (b % 4096 ≡ 2 → ⊥) → 3 + (b - 3 - 2 * ((b - 1) / 4096)) + 2 * ((b - 3 - 2 * ((b - 1) / 4096)) / 4094) ≡ b
-    four b least first second = omega (arith, least, first, second)
+found_at : (n b : ℕ) → 0 < n → 3 ≤ b → (b % (n + 2) ≡ 1 → ⊥) → (b % (n + 2) ≡ 2 → ⊥)
+    → 3 + (b - 3 - 2 * ((b - 1) / (n + 2))) + 2 * ((b - 3 - 2 * ((b - 1) / (n + 2))) / n) ≡ b
+found_at n b some least first second =
+    let run = (b - 1) / (n + 2) in
+    let r = (b - 1) % (n + 2) in
+    let split : run * (n + 2) + r ≡ b - 1 = div-add-mod' (b - 1) (n + 2) in
+    let low : r < n + 2 = mod_below (b - 1) (n + 2) (omega arith) in
+    let enough : 2 ≤ r =
+    elim (cases_lt r 2) [
+      | inr is ↦ is
+      | inl few ↦
+          let at : b ≡ run * (n + 2) + (r + 1) = omega (arith, split, least) in
+          let left : b % (n + 2) ≡ r + 1 = ap (λ m. m % (n + 2)) at ∙ mod-mul-add run (n + 2) (r + 1) (omega (arith, few, some)) in
+          elim (cases_eq r 0) [
+            | inl none ↦ absurd (first (omega (arith, left, none)))
+            | inr one ↦ absurd (second (omega (arith, left, few, one)))
+          ]
+    ]
+    in
+    let place = r - 2 in
+    let k : b - 3 - 2 * run ≡ run * n + place = omega (arith, split, least, enough) in
+    ap (λ j. 3 + j + 2 * (j / n)) k ∙ found_in_run n run place b some (omega (arith, low, enough)) (omega (arith, split, least, enough))
 
 pub none_left : (size b : ℕ) → IsBlockSize size → 3 ≤ b → ¬ IsReserved size b → given size (given_before size b) ≡ b
 unfolding given given_before
 none_left size b h least unreserved =
-    found_at size h b least (λ e. unreserved (ap (λ t. eqb b 0 || t || eqb (b % size) 2) (eq-eqb (b % size) 1 e) ∙ middle (eqb b 0) (eqb (b % size) 2)))
+    subst (λ m. (b % m ≡ 1 → ⊥) → (b % m ≡ 2 → ⊥) → 3 + (b - 3 - 2 * ((b - 1) / m)) + 2 * ((b - 3 - 2 * ((b - 1) / m)) / (size - 2)) ≡ b) (two_more size h)
+    (found_at (size - 2) b (omega (arith, (sized size h).least)) least) (λ e. unreserved (ap (λ t. eqb b 0 || t || eqb (b % size) 2) (eq-eqb (b % size) 1 e) ∙ middle (eqb b 0) (eqb (b % size) 2)))
     (λ e. unreserved (ap (λ t. eqb b 0 || eqb (b % size) 1 || t) (eq-eqb (b % size) 2 e) ∙ last (eqb b 0 || eqb (b % size) 1)))
   where
     middle : (t u : Bool) → (t || true || u) ≡ true

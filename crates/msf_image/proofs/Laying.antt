@@ -1,16 +1,18 @@
 -- A file that is laid out block by block: each block is read as it was laid.
-use Rattle.std.proofs.Common.{◌≡◌, ◌≤◌, ◌<◌, ◌+◌, ◌-◌, ◌*◌, ◌/◌, ◌%◌, ◌++◌, ℕ, zero, suc, Bool, true, false, cond, eqb, List, [], ◌∷◌, length, map, take, drop, replicate, get_or, Option, None, Some, refl, sym, ap, ◌∙◌, arith}
+use Rattle.std.proofs.Common.{◌≡◌, ◌≤◌, ◌<◌, ◌+◌, ◌-◌, ◌*◌, ◌/◌, ◌%◌, ◌++◌, ℕ, zero, suc, Bool, true, false, cond, eqb, List, [], ◌∷◌, length, map, take, drop, replicate, Option, None, Some, refl, sym, ap, ◌∙◌, arith}
 use Rattle.std.specs.List.{flat_map, range_with_len}
 use Rattle.std.proofs.lemmas.Bool.{eq-eqb, ne_eqb}
 use Rattle.std.proofs.lemmas.List.{append_assoc, drop-drop, drop_at, take_at, take-append-drop, length-append, length-drop, length-replicate, length-take-le}
 use Rattle.std.proofs.lemmas.List.Sums.{sum_by-cons}
-use Rattle.std.proofs.Math.Nat.{add-mul, suc-mul}
+use Rattle.std.proofs.lemmas.Nat.{div-mul-add, mod-mul-add}
+use Rattle.std.proofs.Math.Nat.{add-mul, lt-div-mul-add, suc-mul}
 use Rattle.msf_blocks.specs.declared.superblock.Super.{Super}
 use Rattle.msf_blocks.specs.Blocks.{IsBlockSize, blocks_of_size}
-use Rattle.stream_directory.specs.Directory.{stream_at}
-use Rattle.msf_image.specs.Packed.{block_of, file_block, file_of, filled, given, given_before, stream_blocks, stream_bytes, stream_count, streams_from}
-use Rattle.msf_image.specs.Reads.{block_bytes, bytes_of_blocks, content_of}
-use Rattle.msf_image.proofs.Giving.{at_each, given_before_given, given_is}
+use Rattle.msf_blocks.proofs.Sizes.{sized}
+use Rattle.msf_image.specs.Packed.{block_of, file_block, file_of, filled, given, given_before, stream_blocks, stream_bytes, stream_count, stream_from, streams_from}
+use Rattle.msf_image.specs.Reads.{block_bytes, bytes_of_blocks}
+use Rattle.msf_image.specs.Relation.{stream_in}
+use Rattle.msf_image.proofs.Giving.{given_before_given, given_is}
 
 pub length-block_of : (size : ℕ) (bytes : List ℕ) (k : ℕ) → length (block_of size bytes k) ≡ size
 unfolding block_of
@@ -72,14 +74,17 @@ read_given size head map1 content blocks k h lt =
     ∙ ap (block_of size content) (given_before_given size k h)
 
 -- a block of map 1
-map_place : (size : ℕ) → IsBlockSize size → (j : ℕ) → ((1 + j * size) % size ≡ 1) × ((1 + j * size) / size ≡ j)
-map_place = at_each (λ size. (j : ℕ) → ((1 + j * size) % size ≡ 1) × ((1 + j * size) / size ≡ j)) (λ j. (omega arith, omega arith)) (λ j. (omega arith, omega arith)) (λ j. (omega arith, omega arith)) (λ j. (omega arith, omega arith))
+map_place : (size j : ℕ) → IsBlockSize size → ((1 + j * size) % size ≡ 1) × ((1 + j * size) / size ≡ j)
+map_place size j h =
+    let at : 1 + j * size ≡ j * size + 1 = omega arith in
+    let small : 1 < size = omega (arith, (sized size h).least) in
+    (ap (λ b. b % size) at ∙ mod-mul-add j size 1 small, ap (λ b. b / size) at ∙ div-mul-add j size 1 small)
 
 pub read_map : (size : ℕ) (head map1 content : List ℕ) (blocks j : ℕ) → IsBlockSize size → 1 + j * size < blocks → block_bytes size (file_of size head map1 content blocks) (1 + j * size) ≡ block_of size map1 j
 unfolding file_block
 read_map size head map1 content blocks j h lt =
     let b = 1 + j * size in
-    let place = map_place size h j in
+    let place = map_place size j h in
     read_laid size head map1 content blocks b lt
     ∙ ap (λ t. cond t (block_of size head 0) (cond (eqb (b % size) 1) (block_of size map1 (b / size)) (cond (eqb (b % size) 2) (block_of size [] 0) (block_of size content (given_before size b))))) (ne_eqb b 0 (λ e. omega (arith, e)))
     ∙ ap (λ t. cond t (block_of size map1 (b / size)) (cond (eqb (b % size) 2) (block_of size [] 0) (block_of size content (given_before size b)))) (eq-eqb (b % size) 1 place.0)
@@ -117,37 +122,43 @@ run_is size bytes xs rest a (suc n) len at =
     ap (λ ys. ys ++ flat_map (block_of size bytes) (range_with_len (a + 1) n)) first ∙ ap (λ ys. front ++ ys) (run_is size bytes behind rest (a + 1) n n_behind later) ∙ take-append-drop size xs
 
 -- whole blocks hold the bytes
-whole_blocks : (size : ℕ) → IsBlockSize size → (n : ℕ) → n ≤ blocks_of_size size n * size
-whole_blocks = at_each (λ size. (n : ℕ) → n ≤ blocks_of_size size n * size) (λ n. omega arith) (λ n. omega arith) (λ n. omega arith) (λ n. omega arith)
+whole_blocks : (size n : ℕ) → IsBlockSize size → n ≤ blocks_of_size size n * size
+whole_blocks size n h =
+    let least = (sized size h).least in
+    let next : n + (size - 1) < blocks_of_size size n * size + size = lt-div-mul-add (omega (arith, least)) in
+    omega (arith, next, least)
 
 pub length-filled : (size : ℕ) (bytes : List ℕ) → IsBlockSize size → length (filled size bytes) ≡ blocks_of_size size (length bytes) * size
 length-filled size bytes h =
     let pad = blocks_of_size size (length bytes) * size - length bytes in
-    omega (arith, length-append bytes (replicate pad 0), length-replicate {A = ℕ} pad 0, whole_blocks size h (length bytes))
+    omega (arith, length-append bytes (replicate pad 0), length-replicate {A = ℕ} pad 0, whole_blocks size (length bytes) h)
 
--- The blocks from the a-th given one on hold these streams, and each stream's content is read.
+-- The blocks from the a-th given one on hold this stream, and it is read.
+content_laid : (s : Super) (file content behind : List ℕ) (x : Option (List ℕ)) (a : ℕ) → IsBlockSize s.block → drop (a * s.block) content ≡ filled s.block (stream_bytes x) ++ behind
+    → ((k : ℕ) → a ≤ k → k < a + stream_count s.block x → block_bytes s.block file (given s.block k) ≡ block_of s.block content k) → stream_in file s (stream_from s.block a x) ≡ x
+content_laid s file content behind None a h at each = refl
+content_laid s file content behind (Some x) a h at each =
+    let count = blocks_of_size s.block (length x) in
+    let pad : List ℕ = replicate (count * s.block - length x) 0 in
+    ap (λ bytes. Some (take (length x) bytes)) (run_of s.block file content (given s.block) a count each ∙ run_is s.block content (filled s.block x) behind a count (length-filled s.block x h) at)
+    ∙ ap Some (take_at x pad (length x) refl)
+
+-- the same of streams
 pub contents_laid : (s : Super) (file content rest : List ℕ) (streams : List (Option (List ℕ))) (a : ℕ) → IsBlockSize s.block
     → drop (a * s.block) content ≡ flat_map (λ stream. filled s.block (stream_bytes stream)) streams ++ rest
     → ((k : ℕ) → a ≤ k → k < a + stream_blocks s.block streams → block_bytes s.block file (given s.block k) ≡ block_of s.block content k)
-    → (i : ℕ) → content_of file s (stream_at (streams_from s.block a streams) i) ≡ stream_bytes (get_or streams i None)
-contents_laid s file content rest [] a h at each i = refl
-contents_laid s file content rest (None ∷ streams) a h at each zero = refl
-contents_laid s file content rest (Some x ∷ streams) a h at each zero =
-    let count = blocks_of_size s.block (length x) in
-    let more = sum_by-cons (stream_count s.block) (Some x) streams in
-    let behind = flat_map (λ stream. filled s.block (stream_bytes stream)) streams in
-    let pad : List ℕ = replicate (count * s.block - length x) 0 in
-    ap (take (length x)) (run_of s.block file content (given s.block) a count (λ k from to. each k from (omega (arith, to, more)))
-    ∙ run_is s.block content (filled s.block x) (behind ++ rest) a count (length-filled s.block x h) (at ∙ append_assoc (filled s.block x) behind rest))
-    ∙ take_at x pad (length x) refl
-contents_laid s file content rest (x ∷ streams) a h at each (suc i) =
+    → map (stream_in file s) (streams_from s.block a streams) ≡ streams
+contents_laid s file content rest [] a h at each = refl
+contents_laid s file content rest (x ∷ streams) a h at each =
     let count = stream_count s.block x in
     let more = sum_by-cons (stream_count s.block) x streams in
     let streams_filled = flat_map (λ stream. filled s.block (stream_bytes stream)) streams in
     let behind = streams_filled ++ rest in
     let front = filled s.block (stream_bytes x) in
+    let here : drop (a * s.block) content ≡ front ++ behind = at ∙ append_assoc front streams_filled rest in
     let next : (a + count) * s.block ≡ a * s.block + count * s.block = omega (arith, add-mul a count s.block) in
     let later : drop ((a + count) * s.block) content ≡ behind =
-    ap (λ m. drop m content) next ∙ sym (drop-drop (count * s.block) (a * s.block) content) ∙ ap (drop (count * s.block)) (at ∙ append_assoc front streams_filled rest)
+    ap (λ m. drop m content) next ∙ sym (drop-drop (count * s.block) (a * s.block) content) ∙ ap (drop (count * s.block)) here
     ∙ drop_at front behind (count * s.block) (length-filled s.block (stream_bytes x) h) in
-    contents_laid s file content rest streams (a + count) h later (λ k from to. each k (omega (arith, from)) (omega (arith, to, more))) i
+    ap (λ y. y ∷ map (stream_in file s) (streams_from s.block (a + count) streams)) (content_laid s file content behind x a h here (λ k from to. each k from (omega (arith, to, more))))
+    ∙ ap (λ ys. x ∷ ys) (contents_laid s file content rest streams (a + count) h later (λ k from to. each k (omega (arith, from)) (omega (arith, to, more))))

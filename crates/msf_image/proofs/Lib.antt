@@ -1,12 +1,14 @@
 mod Moments
-mod Joining
-mod Superblocks
-mod Listed
-mod Directories
-mod Searching
+pub mod Joining
+pub mod Superblocks
+pub mod Listed
+pub mod Directories
+pub mod Searching
 mod Opening
-mod Giving
-mod Laying
-mod PackedStreams
-mod PackedFile
-mod PackedLoops
+pub mod Relating
+pub mod Sparing
+pub mod Giving
+pub mod Laying
+pub mod PackedStreams
+pub mod PackedFile
+pub mod PackedLoops

@@ -1,42 +1,29 @@
 -- The blocks that the block map lists, and faults that are told.
-use Rattle.std.proofs.Common.{◌≡◌, ◌≤◌, ◌<◌, ◌+◌, ◌*◌, ◌/◌, ◌%◌, ◌++◌, ◌-◌, ℕ, zero, suc, List, [], ◌∷◌, append_assoc, length, take, drop, All, Option, None, Result, Ok, Err, sym, ap, subst, ◌∙◌, IsErrAnd, arith}
+use Rattle.std.proofs.Common.{◌≡◌, ◌≤◌, ◌<◌, ◌+◌, ◌*◌, ◌/◌, ◌%◌, ◌++◌, ◌-◌, ℕ, zero, suc, List, [], ◌∷◌, append_assoc, length, take, drop, All, None, Result, Ok, Err, refl, sym, ap, subst, ◌∙◌, IsErrAnd, arith}
+use Rattle.std.specs.Prelude.{IfSome}
+use Rattle.std.specs.Option.{option_map}
 use Rattle.std.proofs.lemmas.List.{append-nil, length-take-le}
 use Rattle.std.proofs.lemmas.Nat.{mul-le}
 use Rattle.std.proofs.Math.Nat.{div-lt_iff_lt-mul, mul-div_left, mul_assoc, mul_comm, suc-mul}
 use Rattle.msf_blocks.specs.declared.superblock.Super.{Super}
 use Rattle.msf_blocks.specs.Blocks.{blocks_of_size}
+use Rattle.msf_blocks.specs.Judging.{Tells, told_by, unless}
 use Rattle.msf_blocks.specs.Superblock.{IsSuper}
+use Rattle.msf_blocks.proofs.Judging.{told_below, unless_err}
 use Rattle.msf_blocks.proofs.Sizes.{sized}
 use Rattle.stream_directory.specs.declared.fault.DirFault.{DirFault}
 use Rattle.stream_directory.specs.declared.fault.DirFault.TheVariants as directory
 use Rattle.stream_directory.specs.Directory.{AreUsable}
-use Rattle.stream_directory.specs.Reading.{Fails, IsFound, first_bad, unless, words_in}
+use Rattle.stream_directory.specs.Reading.{directory_damage, first_bad, words_in}
 use Rattle.stream_directory.proofs.Streams.{usable_from_none}
 use Rattle.msf_image.specs.declared.fault.OpenFault.{OpenFault}
-use Rattle.msf_image.specs.declared.fault.OpenFault.TheVariants.{Damage, DiskFault, OutOfMemory}
-use Rattle.msf_image.specs.Faults.{fault_of_directory}
-use Rattle.msf_image.specs.Reads.{Tells, block_bytes, bytes_of_blocks, directory_blocks, listed_blocks, of_file}
-use Rattle.msf_image.proofs.Superblocks.{told_err}
+use Rattle.msf_image.specs.Faults.{damage_in, damage_of_directory, fault_of_directory}
+use Rattle.msf_image.specs.Reads.{block_bytes, bytes_of_blocks, directory_blocks, listed_blocks}
 
--- a fault of the directory is told as one of the file
-pub told_fails : {X Y : Type 0} (view : X → Y) (r : Result X OpenFault) (read : Result Y DirFault) (f : DirFault) → IsErrAnd r (λ x. x ≡ fault_of_directory f) → Fails f read → Tells view r (of_file read)
-told_fails view r read (directory.Short at) same is = told_err view r (of_file read) _ same (ap of_file is)
-told_fails view r read (directory.Extra at) same is = told_err view r (of_file read) _ same (ap of_file is)
-told_fails view r read (directory.ReservedBlock b) same is = told_err view r (of_file read) _ same (ap of_file is)
-told_fails view r read (directory.OutsideFile b) same is = told_err view r (of_file read) _ same (ap of_file is)
-told_fails view r read (directory.BlockTwice b) same is = told_err view r (of_file read) _ same (ap of_file is)
-told_fails view (Ok x) read directory.OutOfMemory same is = absurd same
-told_fails view (Err (Damage kind place)) read directory.OutOfMemory same is = absurd cc
-told_fails view (Err DiskFault) read directory.OutOfMemory same is = tt
-told_fails view (Err OutOfMemory) read directory.OutOfMemory same is = tt
-
-fails_found : {A : Type 0} (f : DirFault) (found : Option DirFault) (x : A) → IsFound f found → Fails f (unless found x)
-fails_found (directory.Short at) found x is = ap (λ o. unless o x) is
-fails_found (directory.Extra at) found x is = ap (λ o. unless o x) is
-fails_found (directory.ReservedBlock b) found x is = ap (λ o. unless o x) is
-fails_found (directory.OutsideFile b) found x is = ap (λ o. unless o x) is
-fails_found (directory.BlockTwice b) found x is = ap (λ o. unless o x) is
-fails_found directory.OutOfMemory found x is = tt
+-- the damage in a fault of the directory, as one of the file
+pub directory_fits : (f : DirFault) → damage_in (fault_of_directory f) ≡ option_map damage_of_directory (directory_damage f)
+directory_fits (directory.Damage damage) = refl
+directory_fits directory.OutOfMemory = refl
 
 -- how many words bytes have
 length-words_in : (bytes : List ℕ) → (4 * length (words_in bytes) ≤ length bytes) × (length bytes < 4 * length (words_in bytes) + 4)
@@ -51,7 +38,7 @@ below_div : (size x n : ℕ) → 0 < size → x < (n + 1) * size → x / size < 
 below_div size x n some below = (div-lt_iff_lt-mul some).1 below
 
 -- blocks of at most so many bytes as a quarter of a block's square
-fit : (size bytes n : ℕ) → 512 ≤ size → size % 8 ≡ 0 → bytes ≤ size * size / 4 → size < 4 * n + 4 → blocks_of_size size bytes ≤ n
+pub fit : (size bytes n : ℕ) → 512 ≤ size → size % 8 ≡ 0 → bytes ≤ size * size / 4 → size < 4 * n + 4 → blocks_of_size size bytes ≤ n
 fit size bytes n least eighth few many =
     let q = size / 4 in
     let whole : size ≡ q * 4 = omega (arith, eighth) in
@@ -82,27 +69,45 @@ usable_both s earlier [] others one two = subst (λ used. AreUsable s used other
 usable_both s earlier (b ∷ blocks) others one two =
     (one.0, one.1, one.2, usable_both s (earlier ++ b ∷ []) blocks others one.3 (subst (λ used. AreUsable s used others) (sym (append_assoc earlier (b ∷ []) blocks)) two))
 
+-- blocks that are usable one after another
+pub usable_front : (s : Super) (earlier blocks others : List ℕ) → AreUsable s earlier (blocks ++ others) → AreUsable s earlier blocks
+usable_front s earlier [] others all = tt
+usable_front s earlier (b ∷ blocks) others all = (all.0, all.1, all.2, usable_front s (earlier ++ b ∷ []) blocks others all.3)
+
+pub usable_behind : (s : Super) (earlier blocks others : List ℕ) → AreUsable s earlier (blocks ++ others) → AreUsable s (earlier ++ blocks) others
+usable_behind s earlier [] others all = subst (λ used. AreUsable s used others) (sym (append-nil earlier)) all
+usable_behind s earlier (b ∷ blocks) others all =
+    subst (λ used. AreUsable s used others) (append_assoc earlier (b ∷ []) blocks) (usable_behind s (earlier ++ b ∷ []) blocks others all.3)
+
 -- the block map is the first
 pub listed_behind : (map_addr : ℕ) (blocks listed : List ℕ) → listed ≡ map_addr ∷ blocks → listed ≡ map_addr ∷ drop 1 listed
 listed_behind map_addr blocks listed is = is ∙ ap (λ xs. map_addr ∷ drop 1 xs) (sym is)
 
 -- what is listed is what the file lists
 listed_as : (s : Super) (file block_map listed : List ℕ) → block_map ≡ bytes_of_blocks s.block file (s.map_addr ∷ []) → listed ≡ s.map_addr ∷ take (blocks_of_size s.block s.dir_bytes) (words_in block_map)
-    → listed_blocks file s ≡ of_file (unless (first_bad s [] listed) listed)
+    → listed_blocks file s ≡ told_by damage_of_directory (unless (first_bad s [] listed) listed)
 unfolding listed_blocks
 listed_as s file block_map listed read is =
     let same : listed ≡ s.map_addr ∷ directory_blocks file s = is ∙ ap (λ bytes. s.map_addr ∷ take (blocks_of_size s.block s.dir_bytes) (words_in bytes)) (read ∙ append-nil (block_bytes s.block file s.map_addr)) in
-    ap (λ blocks. of_file (unless (first_bad s [] blocks) blocks)) (sym same)
+    ap (λ blocks. told_by damage_of_directory (unless (first_bad s [] blocks) blocks)) (sym same)
 
 pub listed_ok : (s : Super) (file block_map listed : List ℕ) → block_map ≡ bytes_of_blocks s.block file (s.map_addr ∷ []) → listed ≡ s.map_addr ∷ take (blocks_of_size s.block s.dir_bytes) (words_in block_map)
     → first_bad s [] listed ≡ None → listed_blocks file s ≡ Ok listed
-listed_ok s file block_map listed read is none = listed_as s file block_map listed read is ∙ ap (λ o. of_file (unless o listed)) none
+listed_ok s file block_map listed read is none = listed_as s file block_map listed read is ∙ ap (λ o. told_by damage_of_directory (unless o listed)) none
 
-pub listed_err : {X : Type 0} (view : X → List ℕ) (r : Result X OpenFault) (s : Super) (file block_map listed : List ℕ) (f : DirFault) → block_map ≡ bytes_of_blocks s.block file (s.map_addr ∷ []) → listed ≡ s.map_addr ∷ take (blocks_of_size s.block s.dir_bytes) (words_in block_map)
-    → IsErrAnd r (λ x. x ≡ fault_of_directory f) → IsFound f (first_bad s [] listed) → Tells view r (listed_blocks file s)
-listed_err view r s file block_map listed f read is same found =
-    subst (Tells view r) (sym (listed_as s file block_map listed read is)) (told_fails view r (unless (first_bad s [] listed) listed) f same (fails_found f (first_bad s [] listed) listed found))
+pub listed_err : {X U : Type 0} (u : U) (view : X → List ℕ) (r : Result X OpenFault) (s : Super) (file block_map listed : List ℕ) (f : DirFault) → block_map ≡ bytes_of_blocks s.block file (s.map_addr ∷ []) → listed ≡ s.map_addr ∷ take (blocks_of_size s.block s.dir_bytes) (words_in block_map)
+    → IsErrAnd r (λ x. x ≡ fault_of_directory f) → IfSome (directory_damage f) (λ damage. unless (first_bad s [] listed) u ≡ Err damage) → Tells damage_in view r (listed_blocks file s)
+listed_err u view r s file block_map listed f read is same found =
+    told_below damage_in directory_damage damage_of_directory fault_of_directory view f r (unless (first_bad s [] listed) u) (listed_blocks file s) directory_fits same found
+    (λ damage e. listed_as s file block_map listed read is ∙ ap (λ o. told_by damage_of_directory (unless o listed)) (unless_err (first_bad s [] listed) u damage e))
 
 pub listed_count : (s : Super) (block_map listed : List ℕ) → IsSuper s → length block_map ≡ s.block → listed ≡ s.map_addr ∷ take (blocks_of_size s.block s.dir_bytes) (words_in block_map) → length listed ≡ 1 + blocks_of_size s.block s.dir_bytes
 listed_count s block_map listed is whole same =
     omega (arith, ap length same, length-take-le (blocks_of_size s.block s.dir_bytes) (words_in block_map) (listed_fit s block_map is whole))
+
+-- blocks that the file lists, none of them bad
+pub listed_from : (file listed : List ℕ) (s : Super) → take (blocks_of_size s.block s.dir_bytes) (words_in (block_bytes s.block file s.map_addr)) ≡ listed → first_bad s [] (s.map_addr ∷ listed) ≡ None
+    → listed_blocks file s ≡ Ok (s.map_addr ∷ listed)
+unfolding listed_blocks
+listed_from file listed s are none =
+    ap (λ blocks. told_by damage_of_directory (unless (first_bad s [] (s.map_addr ∷ blocks)) (s.map_addr ∷ blocks))) are ∙ ap (λ f. told_by damage_of_directory (unless f (s.map_addr ∷ listed))) none

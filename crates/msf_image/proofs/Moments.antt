@@ -1,9 +1,16 @@
 -- Runs of calls that only read, one after another.
-use Rattle.std.proofs.Common.{◌≤◌, ℕ, List}
-use Rattle.srv_edge.specs.Disk.{LeavesOnly}
+use Rattle.std.proofs.Common.{◌≤◌, ℕ, List, ◌∙◌, arith}
+use Rattle.srv_edge.specs.Reading.{OnlyReads}
+use Rattle.srv_edge.specs.declared.device.Device.{Ghosts}
 use Rattle.srv_edge.proofs.Moments.{holds_now, joined, weaker}
 
 -- What a crash leaves in either run is what it might have left at the start of the first.
-pub reads_on : {D : Type 0} (moment : D → ℕ) (left_since : D → ℕ → List ℕ → Type 0) (images : D → List ℕ → Type 0) → ((d : D) (t : ℕ) (c : List ℕ) → t ≤ moment d → images d c → left_since d t c) → (old mid new : D) → LeavesOnly moment left_since old mid (images old) → LeavesOnly moment left_since mid new (images mid) → LeavesOnly moment left_since old new (images old)
-reads_on moment left_since images counts old mid new one two =
-    joined moment left_since old mid new (images old) one (weaker moment left_since mid new (images mid) (images old) two (λ c image. holds_now moment left_since old mid (images old) (images mid) one (counts mid) c image))
+pub only_reads_on : {D : Type 0} (device : Ghosts D) → ((d : D) (t : ℕ) (c : List ℕ) → t ≤ device.moment d → device.may_leave d c → device.left_since d t c) → (old mid new : D) → OnlyReads device old mid → OnlyReads device mid new → OnlyReads device old new
+only_reads_on {D} device counts old mid new one two = record {
+  seen = two.seen ∙ one.seen;
+  any_moment = joined device.moment device.left_since old mid new (device.may_leave old) one.any_moment
+      (weaker device.moment device.left_since mid new (device.may_leave mid) (device.may_leave old) two.any_moment
+      (λ c image. holds_now device.moment device.left_since old mid (device.may_leave old) (device.may_leave mid) one.any_moment (counts mid) c image));
+  loans = two.loans ∙ one.loans;
+  never_falls = omega (arith, one.never_falls, two.never_falls);
+}

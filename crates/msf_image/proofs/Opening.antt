@@ -1,40 +1,28 @@
 -- The file as it is read: what is told at each stage is what the file tells.
-use Rattle.std.proofs.Common.{◌≡◌, ◌<◌, ◌+◌, ℕ, false, List, [], ◌∷◌, length, drop, All, Option, Result, Ok, Err, sym, ap, subst, ◌∙◌, arith, IsErrAnd, IfOk, OnOk}
+use Rattle.std.proofs.Common.{◌≡◌, ◌<◌, ◌+◌, ℕ, false, List, [], ◌∷◌, length, drop, All, Option, Result, Ok, Err, sym, ap, subst, ◌∙◌, arith, IfOk, OnOk}
 use Rattle.std.specs.List.{flat_map}
+use Rattle.std.specs.List.Sorted.{IsStrictlyIncreasing}
 use Rattle.msf_blocks.specs.declared.superblock.Super.{Super}
 use Rattle.msf_blocks.specs.Blocks.{IsReserved, blocks_of_size}
+use Rattle.msf_blocks.specs.Judging.{◌>>=◌}
 use Rattle.msf_blocks.specs.Superblock.{IsSuper}
 use Rattle.free_page_maps.specs.FreeBlocks.{FreeBlocks, is_free}
 use Rattle.stream_directory.specs.Directory.{AreUsable, IsDirectory, StreamBlocks, blocks_in}
 use Rattle.msf_image.specs.declared.image.Image.{Image}
+use Rattle.msf_image.specs.declared.fault.Damage.{Damage}
 use Rattle.msf_image.specs.declared.fault.OpenFault.{OpenFault}
-use Rattle.msf_image.specs.declared.fault.OpenFault.TheVariants.{Damage, DiskFault, OutOfMemory}
-use Rattle.msf_image.specs.Reads.{IsWhole, Tells, ◌>>=◌, free_blocks_in, listed_blocks, read_file, streams_in, superblock_in, used_blocks, with_free}
+use Rattle.msf_image.specs.Reads.{IsWhole, free_blocks_in, listed_blocks, read_file, streams_in, superblock_in, used_blocks, with_free}
 use Rattle.msf_image.proofs.Directories.{done}
 use Rattle.msf_image.proofs.Listed.{usable_both}
-use Rattle.msf_image.proofs.Superblocks.{told_err}
 
-ok_is : {x y : FreeBlocks} → done x ≡ done y → x ≡ y
+pub ok_is : {x y : FreeBlocks} → done x ≡ done y → x ≡ y
 ok_is is = cc
 
 -- what comes first is read
-bound : {A B : Type 0} {o x : Result A OpenFault} (f : A → Result B OpenFault) → o ≡ x → (o >>= f) ≡ (x >>= f)
+bound : {A B : Type 0} {o x : Result A Damage} (f : A → Result B Damage) → o ≡ x → (o >>= f) ≡ (x >>= f)
 bound f is = ap (λ r. r >>= f) is
 
--- a fault that was told is told again
-pub told_on : {X Y A B : Type 0} (v : Y → B) (view : X → A) (e : OpenFault) (r : Result X OpenFault) (told : Result B OpenFault) (other : Result A OpenFault)
-    → IsErrAnd r (λ x. x ≡ e) → Tells v (Err e) told → (told ≡ Err e → other ≡ Err e) → Tells view r other
-told_on v view (Damage kind place) r told other same is on = told_err view r other (Damage kind place) same (on is)
-told_on v view DiskFault (Ok x) told other same is on = absurd same
-told_on v view DiskFault (Err (Damage kind place)) told other same is on = absurd cc
-told_on v view DiskFault (Err DiskFault) told other same is on = tt
-told_on v view DiskFault (Err OutOfMemory) told other same is on = tt
-told_on v view OutOfMemory (Ok x) told other same is on = absurd same
-told_on v view OutOfMemory (Err (Damage kind place)) told other same is on = absurd cc
-told_on v view OutOfMemory (Err DiskFault) told other same is on = tt
-told_on v view OutOfMemory (Err OutOfMemory) told other same is on = tt
-
-pub at_superblock : (file : List ℕ) (limit : ℕ) (e : OpenFault) → superblock_in file limit ≡ Err e → read_file file limit ≡ Err e
+pub at_superblock : (file : List ℕ) (limit : ℕ) (e : Damage) → superblock_in file limit ≡ Err e → read_file file limit ≡ Err e
 unfolding read_file
 at_superblock file limit e is = bound _ is
 
@@ -44,14 +32,14 @@ behind_superblock : (file : List ℕ) (limit : ℕ) (s : Super) → superblock_i
 unfolding read_file
 behind_superblock file limit s is = bound _ is
 
-pub at_listed : (file now : List ℕ) (limit : ℕ) (s : Super) (e : OpenFault) → now ≡ file → superblock_in file limit ≡ Ok s → listed_blocks now s ≡ Err e → read_file file limit ≡ Err e
+pub at_listed : (file now : List ℕ) (limit : ℕ) (s : Super) (e : Damage) → now ≡ file → superblock_in file limit ≡ Ok s → listed_blocks now s ≡ Err e → read_file file limit ≡ Err e
 at_listed file now limit s e same is listed = behind_superblock file limit s is ∙ bound _ (ap (λ f. listed_blocks f s) (sym same) ∙ listed)
 
 behind_listed : (file now : List ℕ) (limit : ℕ) (s : Super) (l : List ℕ) → now ≡ file → superblock_in file limit ≡ Ok s → listed_blocks now s ≡ Ok l
     → read_file file limit ≡ (streams_in file s l >>= λ streams. with_free (used_blocks l streams) (record { head = s; directory = streams; free = free_blocks_in file s }))
 behind_listed file now limit s l same is listed = behind_superblock file limit s is ∙ bound _ (ap (λ f. listed_blocks f s) (sym same) ∙ listed)
 
-pub at_streams : (file now then : List ℕ) (limit : ℕ) (s : Super) (l : List ℕ) (e : OpenFault) → now ≡ file → then ≡ now → superblock_in file limit ≡ Ok s → listed_blocks now s ≡ Ok l → streams_in then s l ≡ Err e → read_file file limit ≡ Err e
+pub at_streams : (file now then : List ℕ) (limit : ℕ) (s : Super) (l : List ℕ) (e : Damage) → now ≡ file → then ≡ now → superblock_in file limit ≡ Ok s → listed_blocks now s ≡ Ok l → streams_in then s l ≡ Err e → read_file file limit ≡ Err e
 at_streams file now then limit s l e same again is listed streams =
     behind_listed file now limit s l same is listed ∙ bound _ (ap (λ f. streams_in f s l) (sym (again ∙ same)) ∙ streams)
 
@@ -63,10 +51,10 @@ at_free file now then last limit s l d m same again more is listed streams free 
 
 -- an image of which all was judged
 pub whole_judged : (r : Result Image OpenFault) (image : Image) (listed : List ℕ) → IsSuper image.head → listed ≡ image.head.map_addr ∷ drop 1 listed → length listed ≡ 1 + blocks_of_size image.head.block image.head.dir_bytes → AreUsable image.head [] listed
-    → IsDirectory image.head listed image.directory → image.free.blocks ≡ image.head.blocks → All (λ b. b < image.head.blocks) image.free.free → All (λ b. ¬ IsReserved image.head.block b) image.free.free
+    → IsDirectory image.head listed image.directory → image.free.blocks ≡ image.head.blocks → All (λ b. b < image.head.blocks) image.free.free → All (λ b. ¬ IsReserved image.head.block b) image.free.free → IsStrictlyIncreasing image.free.free
     → IfOk r (λ judged. judged ≡ image) → OnOk r (All (λ b. is_free image.free b ≡ false) (used_blocks listed image.directory)) → IfOk r IsWhole
-whole_judged (Err fault) image listed head first count usable directory size inside unreserved same none_free = tt
-whole_judged (Ok judged) image listed head first count usable directory size inside unreserved same none_free =
+whole_judged (Err fault) image listed head first count usable directory size inside unreserved rising same none_free = tt
+whole_judged (Ok judged) image listed head first count usable directory size inside unreserved rising same none_free =
     let used = usable_both image.head [] listed (flat_map blocks_in image.directory) usable directory.usable in
     subst IsWhole (sym same) (record {
       head = head;
@@ -78,4 +66,5 @@ whole_judged (Ok judged) image listed head first count usable directory size ins
       size = size;
       inside = inside;
       unreserved = unreserved;
+      rising = rising;
     })

@@ -1,37 +1,34 @@
 -- A packed file reads as its streams, with no free block.
-use Rattle.std.proofs.Common.{◌≡◌, ◌≤◌, ◌<◌, ◌+◌, ◌-◌, ◌*◌, ◌/◌, ◌%◌, ◌^◌, ◌++◌, ℕ, zero, suc, Bool, false, cond, eqb, List, [], ◌∷◌, length, take, drop, replicate, get_or, find, All, Option, None, Some, Ok, refl, sym, ap, subst, ◌∙◌, arith}
+use Rattle.std.proofs.Common.{◌≡◌, ◌≤◌, ◌<◌, ◌+◌, ◌-◌, ◌*◌, ◌/◌, ◌^◌, ◌++◌, ◌&&◌, not, ℕ, zero, suc, Bool, true, false, cond, List, [], ◌∷◌, length, map, take, drop, replicate, get_or, All, Option, refl, sym, ap, subst, ◌∙◌, arith}
 use Rattle.std.specs.Prelude.{filter}
 use Rattle.std.specs.List.{AllByRecursion, flat_map, range_with_len}
 use Rattle.std.proofs.lemmas.List.{append_assoc, append-nil, drop_at, take_at, take-take, length-append}
 use Rattle.std.proofs.lemmas.List.FromFn.{get_or-map-range_with_len, length-map-range_with_len}
 use Rattle.std.proofs.lemmas.List.Sums.{sum_by-cons}
-use Rattle.std.proofs.lemmas.Nat.Bits.{bit_at-zero}
 use Rattle.std.proofs.Math.Nat.{add-mul}
 use Rattle.std.proofs.Math.Seq.{take-append-add}
 use Rattle.msf_blocks.specs.declared.superblock.Super.{Super}
-use Rattle.msf_blocks.specs.Bits.{has_bit}
-use Rattle.msf_blocks.specs.Blocks.{IsBlockSize, IsReserved, blocks_of_size, map_block, map_blocks}
-use Rattle.msf_blocks.specs.Superblock.{IsSuper, numbers_of, superblock_text}
+use Rattle.msf_blocks.specs.Blocks.{IsBlockSize, IsReserved, blocks_of_size, is_reserved, map_block, map_blocks}
+use Rattle.msf_blocks.specs.Superblock.{superblock_text}
 use Rattle.msf_blocks.proofs.Numbers.{little_number-little_bytes}
 use Rattle.msf_blocks.proofs.Sizes.{sized}
-use Rattle.msf_blocks.proofs.SuperblockTexts.{passes}
-use Rattle.free_page_maps.specs.FreeBlocks.{below_where, free_in, is_free}
-use Rattle.free_page_maps.specs.MapText.{map_text, number_where, map_bit}
-use Rattle.free_page_maps.proofs.MapTexts.{padded_text, text_and_again}
-use Rattle.stream_directory.specs.Directory.{StreamBlocks, directory_text, stream_at, word}
-use Rattle.stream_directory.specs.Reading.{first_bad, reading, unless, words_in}
-use Rattle.stream_directory.proofs.Streams.{Spells-directory_text, none_from_usable, reading_again}
+use Rattle.free_page_maps.specs.FreeBlocks.{below_where, free_in, is_free, unreserved_where}
+use Rattle.free_page_maps.specs.MapText.{map_text}
+use Rattle.free_page_maps.proofs.MapTexts.{length-map_text, map_again}
+use Rattle.stream_directory.specs.Directory.{AreUsable, blocks_in, directory_text, word}
+use Rattle.stream_directory.specs.Reading.{words_in}
+use Rattle.stream_directory.proofs.Streams.{Spells-directory_text}
 use Rattle.msf_image.specs.Packed.{IsPackable, block_of, directory_blocks_of, directory_bytes, filled, given, given_from, none_of, packed, packed_content, packed_directory, packed_image, packed_listed, packed_map_addr, packed_super, stream_blocks, stream_bytes, stream_count}
-use Rattle.msf_image.specs.Reads.{active_map_blocks, block_bytes, bytes_of_blocks, content_of, free_blocks_in, listed_blocks, of_file, read_file, streams_in, superblock_in, tested, used_blocks, with_free, unless_free}
-use Rattle.msf_image.proofs.Directories.{done, map_inside}
-use Rattle.msf_image.proofs.Giving.{at_each}
+use Rattle.msf_image.specs.Reads.{IsWhole, active_map_blocks, block_bytes, bytes_of_blocks, free_blocks_in, used_blocks}
+use Rattle.msf_image.specs.Relation.{Reads, contents_in, directory_in, stream_in, used_in}
+use Rattle.msf_image.proofs.Directories.{map_inside}
 use Rattle.msf_image.proofs.Laying.{contents_laid, length-file_of, length-filled, read_front, read_given, read_map, run_is, run_of}
-use Rattle.msf_image.proofs.Opening.{at_free}
+use Rattle.msf_image.proofs.Listed.{fit, usable_both}
 use Rattle.msf_image.proofs.PackedStreams.{inside_packed, is_directory, is_super, length-packed_text, listed_usable, none_skipped}
 
 -- ---- the superblock
 
-length-superblock_text : (s : Super) → length (superblock_text s) ≡ 56
+pub length-superblock_text : (s : Super) → length (superblock_text s) ≡ 56
 unfolding superblock_text
 length-superblock_text s = refl
 
@@ -43,14 +40,7 @@ front_of size text file least len same =
     let short : 56 ≤ size = omega (arith, least) in
     sym (take-take 56 size file short) ∙ ap (take 56) whole ∙ take-take 56 size (text ++ replicate size 0) short ∙ take_at text (replicate size 0) 56 len
 
-superblock_from : (file : List ℕ) (limit : ℕ) (s : Super) → IsSuper s → take 56 file ≡ superblock_text s → s.blocks ≤ limit → s.blocks * s.block ≤ length file → superblock_in file limit ≡ Ok s
-unfolding superblock_in
-superblock_from file limit s is front few inside =
-    let same : take 56 (take 56 file) ≡ superblock_text s = take-take 56 56 file (omega arith) ∙ front in
-    let found = passes (take 56 file) (length file) limit s (record { is_super = is; text = same; limited = few; inside = inside }) in
-    ap (λ f. tested f (numbers_of (take 56 file))) found.0 ∙ ap Ok found.1
-
-packed_front : (size unknown : ℕ) (streams : List (Option (List ℕ))) → IsPackable size streams → take 56 (packed size unknown streams) ≡ superblock_text (packed_super size unknown streams)
+pub packed_front : (size unknown : ℕ) (streams : List (Option (List ℕ))) → IsPackable size streams → take 56 (packed size unknown streams) ≡ superblock_text (packed_super size unknown streams)
 unfolding packed
 packed_front size unknown streams p =
     let s = packed_super size unknown streams in
@@ -60,12 +50,6 @@ pub length-packed : (size unknown : ℕ) (streams : List (Option (List ℕ))) �
 unfolding packed
 length-packed size unknown streams =
     let s = packed_super size unknown streams in length-file_of size (superblock_text s) (map_text size (none_of s.blocks)) (packed_content size streams) s.blocks
-
-packed_superblock : (size unknown limit : ℕ) (streams : List (Option (List ℕ))) → unknown < 2 ^ 32 → IsPackable size streams → packed_map_addr size streams + 1 ≤ limit
-    → superblock_in (packed size unknown streams) limit ≡ Ok (packed_super size unknown streams)
-packed_superblock size unknown limit streams fits p few =
-    let len = length-packed size unknown streams in
-    superblock_from (packed size unknown streams) limit (packed_super size unknown streams) (is_super size unknown streams fits p) (packed_front size unknown streams p) few (omega (arith, len))
 
 -- ---- what the given blocks hold
 
@@ -114,20 +98,22 @@ given_words size a zero most few below = tt
 given_words size a (suc n) most few below =
     (omega (arith, few, below a (omega arith) (omega arith)), given_words size (a + 1) n most few (λ k from to. below k (omega (arith, from)) (omega (arith, to))))
 
-length-word_text : (words : List ℕ) → length (flat_map word words) ≡ 4 * length words
+pub length-word_text : (words : List ℕ) → length (flat_map word words) ≡ 4 * length words
 length-word_text [] = refl
 length-word_text (n ∷ words) = let h = length-word_text words in omega (arith, h)
 
 -- the words of the bytes of words, whatever stands behind
-words_back : (words more : List ℕ) → AllByRecursion (λ b. b < 2 ^ 32) words → take (length words) (words_in (flat_map word words ++ more)) ≡ words
+pub words_back : (words more : List ℕ) → AllByRecursion (λ b. b < 2 ^ 32) words → take (length words) (words_in (flat_map word words ++ more)) ≡ words
 unfolding words_in
 words_back [] more h = refl
 words_back (n ∷ words) more h =
     ap (λ k. k ∷ take (length words) (words_in (flat_map word words ++ more))) (little_number-little_bytes n [] h.0) ∙ ap (λ ws. n ∷ ws) (words_back words more h.1)
 
 -- the numbers of the directory's blocks fit in one block
-listed_short : (size : ℕ) → IsBlockSize size → (bytes : ℕ) → bytes ≤ size * size / 4 → 4 * blocks_of_size size bytes ≤ size
-listed_short = at_each (λ size. (bytes : ℕ) → bytes ≤ size * size / 4 → 4 * blocks_of_size size bytes ≤ size) (λ bytes le. omega arith) (λ bytes le. omega arith) (λ bytes le. omega arith) (λ bytes le. omega arith)
+pub listed_short : (size bytes : ℕ) → IsBlockSize size → bytes ≤ size * size / 4 → 4 * blocks_of_size size bytes ≤ size
+listed_short size bytes h le =
+    let is = sized size h in
+    omega (arith, fit size bytes (size / 4) is.least is.eighth le (omega arith))
 
 length-packed_listed : (size : ℕ) (streams : List (Option (List ℕ))) → length (packed_listed size streams) ≡ directory_blocks_of size streams
 unfolding packed_listed
@@ -148,7 +134,7 @@ part_front : (size k : ℕ) (bytes xs : List ℕ) → length xs ≤ size → dro
 unfolding block_of
 part_front size k bytes xs short at = (take (size - length xs) (replicate size 0), ap (λ ys. take size (ys ++ replicate size 0)) at ∙ front_and_more size xs (replicate size 0) short)
 
-map_words : (size : ℕ) (bytes words : List ℕ) (k : ℕ) → 4 * length words ≤ size → AllByRecursion (λ b. b < 2 ^ 32) words → drop (k * size) bytes ≡ flat_map word words → take (length words) (words_in (block_of size bytes k)) ≡ words
+pub map_words : (size : ℕ) (bytes words : List ℕ) (k : ℕ) → 4 * length words ≤ size → AllByRecursion (λ b. b < 2 ^ 32) words → drop (k * size) bytes ≡ flat_map word words → take (length words) (words_in (block_of size bytes k)) ≡ words
 map_words size bytes words k short fits at =
     let front = part_front size k bytes (flat_map word words) (omega (arith, length-word_text words, short)) at in
     ap (λ ys. take (length words) (words_in ys)) front.1 ∙ words_back words front.0 fits
@@ -158,29 +144,17 @@ map_addr_read : (size unknown : ℕ) (streams : List (Option (List ℕ))) → Is
 unfolding packed_map_addr
 map_addr_read size unknown streams p = each_given size unknown streams p (stream_blocks size streams + directory_blocks_of size streams) (omega arith)
 
-packed_blocks_listed : (size unknown : ℕ) (streams : List (Option (List ℕ))) → IsPackable size streams
+pub packed_blocks_listed : (size unknown : ℕ) (streams : List (Option (List ℕ))) → IsPackable size streams
     → take (directory_blocks_of size streams) (words_in (block_bytes size (packed size unknown streams) (packed_map_addr size streams))) ≡ packed_listed size streams
 packed_blocks_listed size unknown streams p =
     let len = length-packed_listed size streams in
-    let short : 4 * length (packed_listed size streams) ≤ size = omega (arith, len, listed_short size p.block (directory_bytes size streams) p.directory) in
+    let short : 4 * length (packed_listed size streams) ≤ size = omega (arith, len, listed_short size (directory_bytes size streams) p.block p.directory) in
     ap (λ ys. take (directory_blocks_of size streams) (words_in ys)) (map_addr_read size unknown streams p)
     ∙ ap (λ n. take n (words_in (block_of size (packed_content size streams) (stream_blocks size streams + directory_blocks_of size streams)))) (sym len)
     ∙ map_words size (packed_content size streams) (packed_listed size streams) (stream_blocks size streams + directory_blocks_of size streams) short (listed_words size unknown streams p) (behind_text size streams p)
 
-listed_from : (file listed : List ℕ) (s : Super) → take (blocks_of_size s.block s.dir_bytes) (words_in (block_bytes s.block file s.map_addr)) ≡ listed → first_bad s [] (s.map_addr ∷ listed) ≡ None
-    → listed_blocks file s ≡ Ok (s.map_addr ∷ listed)
-unfolding listed_blocks
-listed_from file listed s are none =
-    ap (λ blocks. of_file (unless (first_bad s [] (s.map_addr ∷ blocks)) (s.map_addr ∷ blocks))) are ∙ ap (λ f. of_file (unless f (s.map_addr ∷ listed))) none
-
-packed_listed_blocks : (size unknown : ℕ) (streams : List (Option (List ℕ))) → IsPackable size streams
-    → listed_blocks (packed size unknown streams) (packed_super size unknown streams) ≡ Ok (packed_map_addr size streams ∷ packed_listed size streams)
-packed_listed_blocks size unknown streams p =
-    let s = packed_super size unknown streams in
-    listed_from (packed size unknown streams) (packed_listed size streams) s (packed_blocks_listed size unknown streams p) (none_from_usable s [] (packed_map_addr size streams ∷ packed_listed size streams) (listed_usable size unknown streams p))
-
 -- the directory's text is read
-text_read : (size unknown : ℕ) (streams : List (Option (List ℕ))) → IsPackable size streams → bytes_of_blocks size (packed size unknown streams) (packed_listed size streams) ≡ filled size (directory_text (packed_directory size streams))
+pub text_read : (size unknown : ℕ) (streams : List (Option (List ℕ))) → IsPackable size streams → bytes_of_blocks size (packed size unknown streams) (packed_listed size streams) ≡ filled size (directory_text (packed_directory size streams))
 unfolding packed_listed
 text_read size unknown streams p =
     let n = stream_blocks size streams in
@@ -190,28 +164,7 @@ text_read size unknown streams p =
     run_of size (packed size unknown streams) content (given size) n d (λ k from to. each_given size unknown streams p k (omega (arith, to)))
     ∙ run_is size content text (flat_map word (given_from size n d)) n d (length-text_filled size streams p) (behind_streams size streams p)
 
-streams_from_text : (file listed text : List ℕ) (s : Super) (map_addr : ℕ) (streams : List (Option StreamBlocks)) → take s.dir_bytes (bytes_of_blocks s.block file listed) ≡ text → reading s (map_addr ∷ listed) text ≡ Ok streams
-    → streams_in file s (map_addr ∷ listed) ≡ Ok streams
-unfolding streams_in
-streams_from_text file listed text s map_addr streams are read = ap (λ t. of_file (reading s (map_addr ∷ listed) t)) are ∙ ap of_file read
-
-packed_streams : (size unknown : ℕ) (streams : List (Option (List ℕ))) → unknown < 2 ^ 32 → IsPackable size streams
-    → streams_in (packed size unknown streams) (packed_super size unknown streams) (packed_map_addr size streams ∷ packed_listed size streams) ≡ Ok (packed_directory size streams)
-packed_streams size unknown streams fits p =
-    let s = packed_super size unknown streams in
-    let directory = packed_directory size streams in
-    let text = directory_text directory in
-    let listed = packed_listed size streams in
-    let pad : List ℕ = replicate (blocks_of_size size (length text) * size - length text) 0 in
-    let cut : take (directory_bytes size streams) (filled size text) ≡ text = take_at text pad (directory_bytes size streams) (length-packed_text size streams p.block) in
-    streams_from_text (packed size unknown streams) listed text s (packed_map_addr size streams) directory (ap (take (directory_bytes size streams)) (text_read size unknown streams p) ∙ cut)
-    (reading_again s (packed_map_addr size streams ∷ listed) text directory (omega (arith, p.blocks)) (is_directory size unknown streams p) (Spells-directory_text size directory text (none_skipped size streams p) refl))
-
 -- ---- the map
-
-length-map_text : (size blocks : ℕ) → length (map_text size (none_of blocks)) ≡ map_blocks size blocks * size
-unfolding map_text
-length-map_text size blocks = length-map-range_with_len (λ i. number_where 8 (λ k. map_bit (none_of blocks) (8 * i + k))) 0 (map_blocks size blocks * size)
 
 none_pass : (p : ℕ → Bool) → ((b : ℕ) → p b ≡ false) → (xs : List ℕ) → filter p xs ≡ []
 none_pass p never [] = refl
@@ -222,15 +175,14 @@ unfolding below_where
 none_below blocks p never = none_pass p never (range_with_len 0 blocks)
 
 -- a map that says that no block is free is read so
-map_again : (size blocks : ℕ) → 0 < size → free_in size blocks (map_text size (none_of blocks)) ≡ none_of blocks
-map_again size blocks some =
-    let none : List ℕ = [] in
-    let bits = below_where blocks (has_bit none) in
-    let empty : bits ≡ [] = none_below blocks (has_bit none) (λ b. ap (λ x. eqb x 1) (bit_at-zero (b % 8))) in
-    let all : All (λ b. ¬ IsReserved size b) bits = subst (All (λ b. ¬ IsReserved size b)) (sym empty) (λ k d lt. absurd (omega (arith, lt))) in
-    let again = text_and_again size blocks none (padded_text blocks none (map_blocks size blocks * size)) some all refl in
-    let same : record { blocks = blocks; free = bits } ≡ none_of blocks = ap (λ free. record { blocks = blocks; free = free }) empty in
-    ap (λ m. free_in size blocks (map_text size m)) (sym same) ∙ ap (free_in size blocks) (sym again.0) ∙ again.1 ∙ same
+none_again : (size blocks : ℕ) → 0 < size → free_in size blocks (map_text size (none_of blocks)) ≡ none_of blocks
+none_again size blocks some =
+    let none : unreserved_where size blocks (λ _. false) ≡ none_of blocks = ap (λ free. record { blocks = blocks; free = free }) (none_below blocks (λ b. not (is_reserved size b) && false) (λ b. and_false (not (is_reserved size b)))) in
+    ap (λ m. free_in size blocks (map_text size m)) (sym none) ∙ map_again size blocks (λ _. false) some ∙ none
+  where
+    and_false : (t : Bool) → (t && false) ≡ false
+    and_false true = refl
+    and_false false = refl
 
 map_read : (size unknown : ℕ) (streams : List (Option (List ℕ))) → unknown < 2 ^ 32 → IsPackable size streams
     → bytes_of_blocks size (packed size unknown streams) (active_map_blocks (packed_super size unknown streams)) ≡ map_text size (none_of (packed_map_addr size streams + 1))
@@ -248,44 +200,85 @@ map_read size unknown streams fits p =
     let there : k < length (active_map_blocks s) = omega (arith, lt, length-map-range_with_len (map_block size 1) 0 n) in
     let place : get_or (active_map_blocks s) k 0 ≡ 1 + k * size = get_or-map-range_with_len (map_block size 1) 0 n k k 0 lt (omega arith) in
     read_map size (superblock_text s) text (packed_content size streams) s.blocks k p.block (omega (arith, place, inside k 0 there)))
-    ∙ run_is size text text [] 0 n (length-map_text size s.blocks) at
+    ∙ run_is size text text [] 0 n (length-map_text size (none_of s.blocks)) at
 
 packed_free : (size unknown : ℕ) (streams : List (Option (List ℕ))) → unknown < 2 ^ 32 → IsPackable size streams
     → free_blocks_in (packed size unknown streams) (packed_super size unknown streams) ≡ none_of (packed_map_addr size streams + 1)
 unfolding free_blocks_in
 packed_free size unknown streams fits p =
     let blocks = packed_map_addr size streams + 1 in
-    ap (free_in size blocks) (map_read size unknown streams fits p) ∙ map_again size blocks (omega (arith, (sized size p.block).least))
-
-find_none : (p : ℕ → Bool) → ((b : ℕ) → p b ≡ false) → (xs : List ℕ) → find p xs ≡ None
-find_none p never [] = refl
-find_none p never (x ∷ xs) = ap (λ t. cond t (Some x) (find p xs)) (never x) ∙ find_none p never xs
-
-none_used_free : (used : List ℕ) (s : Super) (directory : List (Option StreamBlocks)) (blocks : ℕ)
-    → with_free used (record { head = s; directory = directory; free = none_of blocks }) ≡ Ok (record { head = s; directory = directory; free = none_of blocks })
-unfolding with_free
-none_used_free used s directory blocks =
-    ap (λ found. unless_free found (record { head = s; directory = directory; free = none_of blocks })) (find_none (is_free (none_of blocks)) (λ b. refl) used)
+    ap (free_in size blocks) (map_read size unknown streams fits p) ∙ none_again size blocks (omega (arith, (sized size p.block).least))
 
 -- ---- the law
 
-pub packed_reads : (size unknown limit : ℕ) (streams : List (Option (List ℕ))) → unknown < 2 ^ 32 → IsPackable size streams → packed_map_addr size streams + 1 ≤ limit
-    → read_file (packed size unknown streams) limit ≡ Ok (packed_image size unknown streams)
-packed_reads size unknown limit streams fits p few =
+-- the directory's text
+packed_text : (size unknown : ℕ) (streams : List (Option (List ℕ))) → IsPackable size streams → directory_in (packed size unknown streams) (packed_super size unknown streams) ≡ directory_text (packed_directory size streams)
+packed_text size unknown streams p =
+    let text = directory_text (packed_directory size streams) in
+    let pad : List ℕ = replicate (blocks_of_size size (length text) * size - length text) 0 in
+    ap (λ listed. take (directory_bytes size streams) (bytes_of_blocks size (packed size unknown streams) listed)) (packed_blocks_listed size unknown streams p)
+    ∙ ap (take (directory_bytes size streams)) (text_read size unknown streams p) ∙ take_at text pad (directory_bytes size streams) (length-packed_text size streams p.block)
+
+others-map : {A B : Type 0} (f : A → B) (xs : List A) → map f (drop 1 xs) ≡ drop 1 (map f xs)
+others-map f [] = refl
+others-map f (x ∷ xs) = refl
+
+packed_contents : (size unknown : ℕ) (streams : List (Option (List ℕ))) → IsPackable size streams → drop 1 streams ≡ contents_in (packed size unknown streams) (packed_image size unknown streams)
+unfolding packed_directory packed_content
+packed_contents size unknown streams p =
     let file = packed size unknown streams in
     let s = packed_super size unknown streams in
-    let listed = packed_map_addr size streams ∷ packed_listed size streams in
-    let directory = packed_directory size streams in
-    let blocks = packed_map_addr size streams + 1 in
-    at_free file file file file limit s listed directory (none_of blocks) refl refl refl (packed_superblock size unknown limit streams fits p few) (packed_listed_blocks size unknown streams p) (packed_streams size unknown streams fits p)
-    (ap done (packed_free size unknown streams fits p))
-    ∙ none_used_free (used_blocks listed directory) s directory blocks
-
-pub packed_contents : (size unknown i : ℕ) (streams : List (Option (List ℕ))) → IsPackable size streams
-    → content_of (packed size unknown streams) (packed_super size unknown streams) (stream_at (packed_directory size streams) i) ≡ stream_bytes (get_or streams i None)
-unfolding packed_directory packed_content
-packed_contents size unknown i streams p =
     let rest = filled size (directory_text (packed_directory size streams)) ++ flat_map word (packed_listed size streams) in
     let none : 0 * size ≡ 0 = omega arith in
     let at : drop (0 * size) (packed_content size streams) ≡ flat_map (λ stream. filled size (stream_bytes stream)) streams ++ rest = ap (λ m. drop m (packed_content size streams)) none in
-    contents_laid (packed_super size unknown streams) (packed size unknown streams) (packed_content size streams) rest streams 0 p.block at (λ k from to. each_given size unknown streams p k (omega (arith, to))) i
+    let all = contents_laid s file (packed_content size streams) rest streams 0 p.block at (λ k from to. each_given size unknown streams p k (omega (arith, to))) in
+    sym (others-map (stream_in file s) (packed_directory size streams) ∙ ap (drop 1) all)
+
+-- what it reads as is whole
+all_none : (P : ℕ → Type 0) → All P []
+all_none P k d lt = absurd (omega (arith, lt))
+
+all_used : (blocks : ℕ) (used : List ℕ) → All (λ b. is_free (none_of blocks) b ≡ false) used
+all_used blocks used k d lt = refl
+
+packed_usable : (size unknown : ℕ) (streams : List (Option (List ℕ))) → IsPackable size streams
+    → AreUsable (packed_super size unknown streams) [] (used_blocks (packed_map_addr size streams ∷ packed_listed size streams) (packed_directory size streams))
+packed_usable size unknown streams p =
+    usable_both (packed_super size unknown streams) [] (packed_map_addr size streams ∷ packed_listed size streams) (flat_map blocks_in (packed_directory size streams)) (listed_usable size unknown streams p) (is_directory size unknown streams p).usable
+
+pub packed_whole : (size unknown : ℕ) (streams : List (Option (List ℕ))) → unknown < 2 ^ 32 → IsPackable size streams → IsWhole (packed_image size unknown streams)
+packed_whole size unknown streams fits p =
+    let s = packed_super size unknown streams in
+    let listed = packed_map_addr size streams ∷ packed_listed size streams in
+    let directory = is_directory size unknown streams p in
+    record {
+      head = is_super size unknown streams fits p;
+      blocks = packed_listed size streams;
+      count = length-packed_listed size streams;
+      directory = directory;
+      usable = packed_usable size unknown streams p;
+      none_free = all_used s.blocks (used_blocks listed (packed_directory size streams));
+      size = refl;
+      inside = all_none (λ b. b < s.blocks);
+      unreserved = all_none (λ b. ¬ IsReserved size b);
+      rising = λ k lt. absurd (omega (arith, lt));
+    }
+
+pub packed_reads : (size unknown limit : ℕ) (streams : List (Option (List ℕ))) → unknown < 2 ^ 32 → IsPackable size streams → packed_map_addr size streams + 1 ≤ limit
+    → Reads (packed size unknown streams) limit (packed_image size unknown streams) (drop 1 streams)
+packed_reads size unknown limit streams fits p few =
+    let s = packed_super size unknown streams in
+    let directory = packed_directory size streams in
+    let whole = packed_whole size unknown streams fits p in
+    record {
+      head = whole.head;
+      text = packed_front size unknown streams p;
+      limited = few;
+      inside = omega (arith, length-packed size unknown streams);
+      spelled = Spells-directory_text size directory (directory_in (packed size unknown streams) s) (none_skipped size streams p) (packed_text size unknown streams p);
+      sized = whole.directory.sized;
+      usable = subst (λ listed. AreUsable s [] (used_blocks (s.map_addr ∷ listed) directory)) (sym (packed_blocks_listed size unknown streams p)) (packed_usable size unknown streams p);
+      free = sym (packed_free size unknown streams fits p);
+      none_free = all_used s.blocks (used_in (packed size unknown streams) (packed_image size unknown streams));
+      contents = packed_contents size unknown streams p;
+    }

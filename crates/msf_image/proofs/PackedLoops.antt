@@ -1,5 +1,5 @@
 -- A packed file as it is made: one stream, one block or one number more.
-use Rattle.std.proofs.Common.{◌≡◌, ◌≤◌, ◌<◌, ◌+◌, ◌-◌, ◌/◌, ◌%◌, ◌^◌, ◌++◌, ◌⊎◌, inl, inr, ℕ, zero, suc, List, [], ◌∷◌, length, take, drop, replicate, get_or, min, Bool, true, false, ◌&&◌, not, All, Option, Some, None, Result, Ok, Err, refl, sym, ap, subst, ◌∙◌, eqb, lit≤, arith}
+use Rattle.std.proofs.Common.{◌≡◌, ◌≤◌, ◌<◌, ◌+◌, ◌-◌, ◌*◌, ◌/◌, ◌%◌, ◌^◌, ◌++◌, ◌⊎◌, inl, inr, ℕ, zero, suc, List, [], ◌∷◌, length, take, drop, replicate, get_or, min, Bool, true, false, ◌&&◌, not, All, Option, Some, None, Result, Ok, Err, refl, sym, ap, subst, ◌∙◌, eqb, arith}
 use Rattle.std.specs.Prelude.{IfOk}
 use Rattle.std.specs.Global.{Vec}
 use Rattle.std.specs.List.{flat_map, range_with_len}
@@ -15,11 +15,12 @@ use Rattle.msf_blocks.specs.declared.superblock.Super.{Super}
 use Rattle.msf_blocks.specs.Superblock.{superblock_text}
 use Rattle.msf_blocks.specs.Bits.{has_bit}
 use Rattle.msf_blocks.specs.Blocks.{IsBlockSize, blocks_of_size, is_reserved}
-use Rattle.free_page_maps.specs.FreeBlocks.{free_in}
+use Rattle.msf_blocks.proofs.Sizes.{IsBlockSize-le}
+use Rattle.free_page_maps.specs.FreeBlocks.{FreeBlocks, free_in}
 use Rattle.free_page_maps.specs.MapText.{map_text}
 use Rattle.stream_directory.specs.Directory.{StreamBlocks, absent_size, directory_text, word}
-use Rattle.msf_image.specs.Packed.{IsPackable, IsSmall, directory_blocks_of, directory_bytes, file_block, file_of, filled, given, given_from, none_of, packed, packed_content, packed_directory, packed_listed, packed_map_addr, packed_super, present, stream_blocks, stream_bytes, stream_count, stream_from, streams_from}
-use Rattle.msf_image.proofs.Giving.{at_each}
+use Rattle.msf_image.specs.declared.image.Image.{Image}
+use Rattle.msf_image.specs.Packed.{IsPackable, IsSmall, directory_blocks_of, directory_bytes, directory_len, file_block, file_of, filled, given, given_from, none_of, packed, packed_content, packed_directory, packed_image, packed_listed, packed_map_addr, packed_super, present, stream_blocks, stream_bytes, stream_count, stream_from, streams_from}
 use Rattle.msf_image.proofs.PackedStreams.{length-packed_text, length-streams_from}
 use Rattle.msf_image.proofs.PackedFile.{front_and_more, none_below}
 
@@ -149,7 +150,7 @@ size_at xs i x lt is all = subst (λ y. length y < absent_size) (sym is) (all i 
 pub record HasRoom (size : ℕ) (streams : List (Option (List ℕ))) : Type 0 where
   pub kept : stream_blocks size streams < 2 ^ 20
   pub last : stream_blocks size streams + directory_blocks_of size streams < 2 ^ 20
-  pub text : directory_bytes size streams < 2 ^ 23
+  pub text : directory_bytes size streams < 2 ^ 29
   pub map_addr : packed_map_addr size streams < 2 ^ 20
 
 given_no_less : (size k : ℕ) → k ≤ given size k
@@ -160,11 +161,8 @@ pub has_room : (size : ℕ) (streams : List (Option (List ℕ))) → IsPackable 
 unfolding packed_map_addr
 has_room size streams p =
     let least = given_no_less size (stream_blocks size streams + directory_blocks_of size streams) in
-    let most = mul-le size size 4096 4096 (most_size size p.block) (most_size size p.block) in
+    let most = mul-le size size 32768 32768 (IsBlockSize-le size p.block) (IsBlockSize-le size p.block) in
     record { kept = omega (arith, p.blocks, least); last = omega (arith, p.blocks, least); text = omega (arith, p.directory, most); map_addr = omega (arith, p.blocks) }
-  where
-    most_size : (size : ℕ) → IsBlockSize size → size ≤ 4096
-    most_size = at_each (λ size. size ≤ 4096) (lit≤ tt) (lit≤ tt) (lit≤ tt) (lit≤ tt)
 
 pub length-present : (xs : List (List ℕ)) → length (present xs) ≡ length xs
 length-present xs = length-map xs Some
@@ -198,21 +196,31 @@ made_as size streams s map1 content head is holds =
     ap (λ m. file_of s.block (superblock_text s) m content s.blocks) is ∙ ap (λ c. file_of s.block (superblock_text s) (map_text size (none_of s.blocks)) c s.blocks) holds
     ∙ ap (λ (t : Super). file_of t.block (superblock_text t) (map_text size (none_of t.blocks)) (packed_content size streams) t.blocks) head
 
+-- the image of its parts
+abbrev image_made : ℕ → ℕ → ℕ → List (Option StreamBlocks) → FreeBlocks → Image
+image_made size dir_bytes map_addr directory free =
+    record { head = record { block = size; map = 1; blocks = map_addr + 1; dir_bytes = dir_bytes; unknown = 0; map_addr = map_addr }; directory = directory; free = free }
+
+pub image_as : (size dir_bytes map_addr : ℕ) (streams : List (Option (List ℕ))) (directory : List (Option StreamBlocks)) (free : FreeBlocks) → dir_bytes ≡ directory_bytes size streams → map_addr ≡ packed_map_addr size streams
+    → directory ≡ packed_directory size streams → free ≡ none_of (map_addr + 1) → image_made size dir_bytes map_addr directory free ≡ packed_image size 0 streams
+image_as size dir_bytes map_addr streams directory free bytes addr spelled none =
+    ap (image_made size dir_bytes map_addr directory) none ∙ ap (λ d. image_made size dir_bytes map_addr d (none_of (map_addr + 1))) spelled
+    ∙ ap (λ a. image_made size dir_bytes a (packed_directory size streams) (none_of (a + 1))) addr
+    ∙ ap (λ n. image_made size n (packed_map_addr size streams) (packed_directory size streams) (none_of (packed_map_addr size streams + 1))) bytes
+
 -- the file of its parts
-pub packed_of : (size blocks dir_bytes map_addr : ℕ) (xs : List (List ℕ)) (text listed map1 content : List ℕ) → map_addr ≡ packed_map_addr size (present xs) → dir_bytes ≡ directory_bytes size (present xs) → blocks ≡ map_addr + 1
-    → text ≡ directory_text (packed_directory size (present xs)) → listed ≡ packed_listed size (present xs) → map1 ≡ map_text size (none_of blocks) → content ≡ flat_map (filled size) xs ++ (filled size text ++ flat_map word listed)
-    → file_of size (superblock_text (record { block = size; map = 1; blocks = blocks; dir_bytes = dir_bytes; unknown = 0; map_addr = map_addr })) map1 content blocks ≡ packed size 0 (present xs)
+pub packed_of : (size : ℕ) (xs : List (List ℕ)) (image : Image) (text listed map1 content : List ℕ) → image ≡ packed_image size 0 (present xs) → text ≡ directory_text image.directory → listed ≡ packed_listed size (present xs)
+    → map1 ≡ map_text size image.free → content ≡ flat_map (filled size) xs ++ (filled size text ++ flat_map word listed)
+    → file_of image.head.block (superblock_text image.head) map1 content image.head.blocks ≡ packed size 0 (present xs)
 unfolding packed_content
-packed_of size blocks dir_bytes map_addr xs text listed map1 content addr bytes count is all holds has =
-    let s : Super = record { block = size; map = 1; blocks = blocks; dir_bytes = dir_bytes; unknown = 0; map_addr = map_addr } in
-    let head : s ≡ packed_super size 0 (present xs) =
-    ap (λ n. record { block = size; map = 1; blocks = n; dir_bytes = dir_bytes; unknown = 0; map_addr = map_addr }) count
-    ∙ ap (λ n. record { block = size; map = 1; blocks = map_addr + 1; dir_bytes = n; unknown = 0; map_addr = map_addr }) bytes
-    ∙ ap (λ n. record { block = size; map = 1; blocks = n + 1; dir_bytes = directory_bytes size (present xs); unknown = 0; map_addr = n }) addr in
+packed_of size xs image text listed map1 content same is all holds has =
+    let spelled : text ≡ directory_text (packed_directory size (present xs)) = is ∙ ap (λ (i : Image). directory_text i.directory) same in
+    let none : map1 ≡ map_text size (none_of image.head.blocks) = holds ∙ ap (λ (i : Image). map_text size i.free) same ∙ ap (λ (i : Image). map_text size (none_of i.head.blocks)) (sym same) in
     let whole : content ≡ packed_content size (present xs) =
-    has ∙ ap (λ t. flat_map (filled size) xs ++ (filled size t ++ flat_map word listed)) is ∙ ap (λ l. flat_map (filled size) xs ++ (filled size (directory_text (packed_directory size (present xs))) ++ flat_map word l)) all
+    has ∙ ap (λ t. flat_map (filled size) xs ++ (filled size t ++ flat_map word listed)) spelled
+    ∙ ap (λ l. flat_map (filled size) xs ++ (filled size (directory_text (packed_directory size (present xs))) ++ flat_map word l)) all
     ∙ ap (λ front. front ++ (filled size (directory_text (packed_directory size (present xs))) ++ flat_map word (packed_listed size (present xs)))) (sym (filled-present size xs)) in
-    made_as size (present xs) s map1 content head holds whole
+    made_as size (present xs) image.head map1 content (ap (λ (i : Image). i.head) same) none whole
 
 -- ---- the parts as they are counted
 
@@ -223,9 +231,16 @@ pub all_streams : (size : ℕ) (xs : List (List ℕ)) (i : ℕ) → length xs �
 unfolding packed_directory
 all_streams size xs i all = ap (λ ys. streams_from size 0 (present ys)) (take_all i xs all)
 
-pub bytes_as : (size n : ℕ) (streams : List (Option (List ℕ))) (directory : List (Option StreamBlocks)) (text : List ℕ) → IsBlockSize size → directory ≡ packed_directory size streams → text ≡ directory_text directory → n ≡ length text
-    → n ≡ directory_bytes size streams
-bytes_as size n streams directory text h is spelled len = len ∙ ap length (spelled ∙ ap directory_text is) ∙ length-packed_text size streams h
+pub bytes_as : (size kept : ℕ) (xs : List (List ℕ)) → kept ≡ stream_blocks size (present xs) → 4 + 4 * length xs + 4 * kept ≡ directory_bytes size (present xs)
+unfolding directory_bytes
+bytes_as size kept xs same = omega (arith, same, length-present xs)
+
+pub length-text : (size : ℕ) (xs : List (List ℕ)) (image : Image) (text : List ℕ) → IsBlockSize size → image ≡ packed_image size 0 (present xs) → text ≡ directory_text image.directory → length text ≡ directory_bytes size (present xs)
+length-text size xs image text h same is = ap length (is ∙ ap (λ (i : Image). directory_text i.directory) same) ∙ length-packed_text size (present xs) h
+
+-- too many blocks
+pub too_many : (size streams kept : ℕ) → 2 ^ 20 ≤ kept → IsSmall size streams kept → ⊥
+too_many size streams kept many is = omega (arith, many, is.blocks, given_no_less size (kept + blocks_of_size size (directory_len streams kept)))
 
 pub listed_as : (size kept count : ℕ) (streams : List (Option (List ℕ))) → kept ≡ stream_blocks size streams → count ≡ directory_blocks_of size streams → given_from size kept count ≡ packed_listed size streams
 unfolding packed_listed

@@ -5,17 +5,19 @@ use Rattle.std.proofs.lemmas.Bool.{both_ways, ne_eqb}
 use Rattle.std.proofs.lemmas.List.Elements.{All-head, All-tail}
 use Rattle.std.proofs.lemmas.List.FromFn.{length-map-range_with_len}
 use Rattle.std.proofs.lemmas.List.Sums.{sum_by-cons}
+use Rattle.std.proofs.Math.Nat.{div-eq_of_lt}
 use Rattle.msf_blocks.specs.declared.superblock.Super.{Super}
 use Rattle.msf_blocks.specs.Blocks.{IsBlockSize, blocks_of_size}
 use Rattle.msf_blocks.specs.Superblock.{IsSuper}
+use Rattle.msf_blocks.proofs.Sizes.{sized}
 use Rattle.stream_directory.specs.Directory.{AreSized, AreUsable, IsDirectory, IsFirst, IsSized, absent_size, blocks_in, directory_text, size_field, skipped_count}
 use Rattle.stream_directory.proofs.Streams.{length-directory_text}
 use Rattle.msf_image.specs.Packed.{IsPackable, directory_blocks_of, directory_bytes, given, given_from, packed_directory, packed_listed, packed_map_addr, packed_super, stream_blocks, stream_bytes, stream_count, stream_from, streams_from}
-use Rattle.msf_image.proofs.Giving.{at_each, given_is, given_once, given_unreserved, no_earlier}
+use Rattle.msf_image.proofs.Giving.{given_is, given_once, given_unreserved, no_earlier}
 
 -- no bytes take no block
 pub none_counted : (size : ℕ) → IsBlockSize size → blocks_of_size size 0 ≡ 0
-none_counted = at_each (λ size. blocks_of_size size 0 ≡ 0) refl refl refl refl
+none_counted size h = div-eq_of_lt (omega (arith, (sized size h).least))
 
 -- ---- the streams
 

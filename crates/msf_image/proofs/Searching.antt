@@ -3,6 +3,7 @@ use Rattle.std.proofs.Common.{◌≡◌, ◌<◌, ◌+◌, ◌++◌, ℕ, zero, 
 use Rattle.std.specs.List.{flat_map}
 use Rattle.std.specs.Option.{option_or}
 use Rattle.std.proofs.lemmas.List.{append-nil, take_more, take-append-drop}
+use Rattle.std.proofs.lemmas.List.Elements.{All-tail}
 use Rattle.std.proofs.lemmas.List.Folds.{find-append}
 use Rattle.std.proofs.lemmas.Grind.{flat_map-append}
 
@@ -38,3 +39,8 @@ pub none_passes : {X : Type 0} (p : X → Bool) (xs : List X) → find p xs ≡ 
 none_passes p [] none k d lt = absurd (omega (arith, lt))
 none_passes p (x ∷ xs) none zero d lt = (not_here (p x) x (find p xs) none).0
 none_passes p (x ∷ xs) none (suc k) d lt = none_passes p xs (not_here (p x) x (find p xs) none).1 k d (omega (arith, lt))
+
+-- where no element passes, none is found
+pub none_found : {X : Type 0} (p : X → Bool) (xs : List X) → All (λ x. p x ≡ false) xs → find p xs ≡ None
+none_found p [] none = refl
+none_found p (x ∷ xs) none = ap (λ t. cond t (Some x) (find p xs)) (none 0 x (omega arith)) ∙ none_found p xs (All-tail (λ x. p x ≡ false) x xs none)

@@ -1,38 +1,60 @@
--- The damage that a fault of the superblock or of the directory is.
-use Rattle.std.specs.Prelude.{ℕ, List, codes}
+-- The damage that the superblock or the directory has, and the damage in a fault.
+use Rattle.std.specs.Prelude.{ℕ, List, Option, Some, None, codes}
 use Rattle.msf_blocks.specs.declared.superblock.SuperFault.{SuperFault}
 use Rattle.msf_blocks.specs.declared.superblock.SuperFault.TheVariants as superblock
+use Rattle.stream_directory.specs.declared.fault.DirDamage.{DirDamage}
+use Rattle.stream_directory.specs.declared.fault.DirDamage.TheVariants as directory
 use Rattle.stream_directory.specs.declared.fault.DirFault.{DirFault}
-use Rattle.stream_directory.specs.declared.fault.DirFault.TheVariants as directory
+use Rattle.stream_directory.specs.declared.fault.DirFault.TheVariants as directory_fault
 use Rattle.msf_image.specs.declared.blocks.ReadFault.{ReadFault}
 use Rattle.msf_image.specs.declared.blocks.ReadFault.TheVariants as read
+use Rattle.msf_image.specs.declared.fault.Damage.{Damage}
 use Rattle.msf_image.specs.declared.fault.DamageKind.{DamageKind}
 use Rattle.msf_image.specs.declared.fault.DamageKind.TheVariants as kind
 use Rattle.msf_image.specs.declared.fault.OpenFault.{OpenFault}
-use Rattle.msf_image.specs.declared.fault.OpenFault.TheVariants.{Damage, DiskFault, OutOfMemory}
+use Rattle.msf_image.specs.declared.fault.OpenFault.TheVariants as fault
 
 -- the place is that of the number in the superblock
-abbrev pub fault_of_superblock : SuperFault → OpenFault
-fault_of_superblock superblock.Magic = Damage kind.Magic 0
-fault_of_superblock superblock.BlockSize = Damage kind.BlockSize 32
-fault_of_superblock superblock.FreeMap = Damage kind.FreeMap 36
-fault_of_superblock superblock.Blocks = Damage kind.Blocks 40
-fault_of_superblock superblock.Directory = Damage kind.Directory 44
-fault_of_superblock superblock.MapAddr = Damage kind.MapAddr 52
+abbrev pub damage_of_superblock : SuperFault → Damage
+damage_of_superblock superblock.Magic = record { kind = kind.Magic; place = 0 }
+damage_of_superblock superblock.BlockSize = record { kind = kind.BlockSize; place = 32 }
+damage_of_superblock superblock.FreeMap = record { kind = kind.FreeMap; place = 36 }
+damage_of_superblock superblock.Blocks = record { kind = kind.Blocks; place = 40 }
+damage_of_superblock superblock.Directory = record { kind = kind.Directory; place = 44 }
+damage_of_superblock superblock.MapAddr = record { kind = kind.MapAddr; place = 52 }
 
 -- the place is an offset in the directory, or a block's number
+abbrev pub damage_of_directory : DirDamage → Damage
+damage_of_directory (directory.Short at) = record { kind = kind.DirectoryShort; place = at }
+damage_of_directory (directory.Extra at) = record { kind = kind.DirectoryExtra; place = at }
+damage_of_directory (directory.ReservedBlock block) = record { kind = kind.ReservedBlock; place = block }
+damage_of_directory (directory.OutsideFile block) = record { kind = kind.OutsideFile; place = block }
+damage_of_directory (directory.BlockTwice block) = record { kind = kind.BlockTwice; place = block }
+
+-- a used block that is free
+abbrev pub free_damage : ℕ → Damage
+free_damage block = record { kind = kind.BlockFree; place = block }
+
+-- a damage as a fault, and the damage in a fault
+abbrev pub fault_of_damage : Damage → OpenFault
+fault_of_damage damage = fault.Damage damage.kind damage.place
+
+abbrev pub damage_in : OpenFault → Option Damage
+damage_in (fault.Damage kind place) = Some (record { kind = kind; place = place })
+damage_in fault.DiskFault = None
+damage_in fault.OutOfMemory = None
+
+abbrev pub fault_of_superblock : SuperFault → OpenFault
+fault_of_superblock damage = fault_of_damage (damage_of_superblock damage)
+
 abbrev pub fault_of_directory : DirFault → OpenFault
-fault_of_directory (directory.Short at) = Damage kind.DirectoryShort at
-fault_of_directory (directory.Extra at) = Damage kind.DirectoryExtra at
-fault_of_directory (directory.ReservedBlock block) = Damage kind.ReservedBlock block
-fault_of_directory (directory.OutsideFile block) = Damage kind.OutsideFile block
-fault_of_directory (directory.BlockTwice block) = Damage kind.BlockTwice block
-fault_of_directory directory.OutOfMemory = OutOfMemory
+fault_of_directory (directory_fault.Damage damage) = fault_of_damage (damage_of_directory damage)
+fault_of_directory directory_fault.OutOfMemory = fault.OutOfMemory
 
 -- why a file was not read on
 abbrev pub fault_of_read : ReadFault → OpenFault
-fault_of_read read.Failed = DiskFault
-fault_of_read read.OutOfMemory = OutOfMemory
+fault_of_read read.Failed = fault.DiskFault
+fault_of_read read.OutOfMemory = fault.OutOfMemory
 
 -- the word for a kind of damage
 abbrev pub kind_text : DamageKind → List ℕ

@@ -1,25 +1,21 @@
 -- What a file reads as: its superblock, its directory and its free blocks; or its first damage.
-use Rattle.std.specs.Prelude.{◌≡◌, ◌<◌, ℕ, List, [], ◌∷◌, ◌++◌, length, All, map, take, drop, find, false, Option, Some, None, Result, Ok, Err}
+use Rattle.std.specs.Prelude.{◌≡◌, ◌≤◌, ◌<◌, ◌*◌, ℕ, List, [], ◌∷◌, ◌++◌, length, All, map, take, drop, find, false, Option, Some, None, Result}
 use Rattle.std.specs.List.{flat_map, range_with_len}
+use Rattle.std.specs.List.Sorted.{IsStrictlyIncreasing}
 use Rattle.msf_blocks.specs.declared.superblock.Super.{Super}
-use Rattle.msf_blocks.specs.declared.superblock.SuperFault.{SuperFault}
 use Rattle.msf_blocks.specs.Blocks.{IsReserved, blocks_of_size, block_offset, map_block, map_blocks}
-use Rattle.msf_blocks.specs.Superblock.{IsSuper, first_fault, numbers_of, superblock_tests}
+use Rattle.msf_blocks.specs.Judging.{◌>>=◌, told_by, unless}
+use Rattle.msf_blocks.specs.Superblock.{IsSuper, superblock_told}
 use Rattle.free_page_maps.specs.FreeBlocks.{FreeBlocks, free_in, is_free}
-use Rattle.stream_directory.specs.declared.fault.DirFault.{DirFault}
 use Rattle.stream_directory.specs.Directory.{AreUsable, IsDirectory, StreamBlocks, blocks_in}
-use Rattle.stream_directory.specs.Reading.{first_bad, reading, unless, words_in}
-use Rattle.msf_image.specs.declared.fault.DamageKind.TheVariants.{BlockFree}
-use Rattle.msf_image.specs.declared.fault.OpenFault.{OpenFault}
-use Rattle.msf_image.specs.declared.fault.OpenFault.TheVariants.{Damage, DiskFault, OutOfMemory}
+use Rattle.stream_directory.specs.Reading.{first_bad, reading, words_in}
+use Rattle.msf_image.specs.declared.fault.Damage.{Damage}
 use Rattle.msf_image.specs.declared.image.Image.{Image}
-use Rattle.msf_image.specs.Faults.{fault_of_directory, fault_of_superblock}
+use Rattle.msf_image.specs.Faults.{damage_of_directory, damage_of_superblock, free_damage}
 
--- what comes first decides: the first damage, or what is read behind
-infixl 10 ◌>>=◌
-abbrev pub ◌>>=◌ : {A B : Type 0} → Result A OpenFault → (A → Result B OpenFault) → Result B OpenFault
-(Ok x) >>= f = f x
-(Err fault) >>= f = Err fault
+-- a file is no shorter than its blocks
+abbrev pub HasBlocks : List ℕ → Super → Type 0
+HasBlocks file s = s.blocks * s.block ≤ length file
 
 -- the bytes of a block
 abbrev pub block_bytes : ℕ → List ℕ → ℕ → List ℕ
@@ -30,30 +26,21 @@ abbrev pub bytes_of_blocks : ℕ → List ℕ → List ℕ → List ℕ
 bytes_of_blocks block_size file blocks = flat_map (block_bytes block_size file) blocks
 
 -- the superblock, unless it fails a test
-abbrev pub tested : Option SuperFault → Super → Result Super OpenFault
-tested None s = Ok s
-tested (Some fault) s = Err (fault_of_superblock fault)
-
-unfoldable pub superblock_in : List ℕ → ℕ → Result Super OpenFault
-superblock_in file limit = tested (first_fault (superblock_tests (take 56 file) (length file) limit)) (numbers_of (take 56 file))
-
--- what was read of the directory, with its fault as one of the file
-abbrev pub of_file : {A : Type 0} → Result A DirFault → Result A OpenFault
-of_file (Ok x) = Ok x
-of_file (Err fault) = Err (fault_of_directory fault)
+unfoldable pub superblock_in : List ℕ → ℕ → Result Super Damage
+superblock_in file limit = told_by damage_of_superblock (superblock_told (take 56 file) (length file) limit)
 
 -- The blocks in which the directory lies are listed in one block, the block map.
 abbrev pub directory_blocks : List ℕ → Super → List ℕ
 directory_blocks file s = take (blocks_of_size s.block s.dir_bytes) (words_in (block_bytes s.block file s.map_addr))
 
 -- the block map and the blocks of the directory, unless one of them is none that may be used
-unfoldable pub listed_blocks : List ℕ → Super → Result (List ℕ) OpenFault
+unfoldable pub listed_blocks : List ℕ → Super → Result (List ℕ) Damage
 listed_blocks file s =
-    let blocks = s.map_addr ∷ directory_blocks file s in of_file (unless (first_bad s [] blocks) blocks)
+    let blocks = s.map_addr ∷ directory_blocks file s in told_by damage_of_directory (unless (first_bad s [] blocks) blocks)
 
 -- the streams of the file, of which these blocks are used already
-unfoldable pub streams_in : List ℕ → Super → List ℕ → Result (List (Option StreamBlocks)) OpenFault
-streams_in file s listed = of_file (reading s listed (take s.dir_bytes (bytes_of_blocks s.block file (drop 1 listed))))
+unfoldable pub streams_in : List ℕ → Super → List ℕ → Result (List (Option StreamBlocks)) Damage
+streams_in file s listed = told_by damage_of_directory (reading s listed (take s.dir_bytes (bytes_of_blocks s.block file (drop 1 listed))))
 
 -- the blocks of the active free block map, of which the last may carry meaning in part
 abbrev pub active_map_blocks : Super → List ℕ
@@ -68,27 +55,16 @@ abbrev pub used_blocks : List ℕ → List (Option StreamBlocks) → List ℕ
 used_blocks listed streams = listed ++ flat_map blocks_in streams
 
 -- an image, unless a used block of it is free
-abbrev pub unless_free : Option ℕ → Image → Result Image OpenFault
-unless_free None image = Ok image
-unless_free (Some b) image = Err (Damage BlockFree b)
-
-unfoldable pub with_free : List ℕ → Image → Result Image OpenFault
-with_free used image = unless_free (find (is_free image.free) used) image
+unfoldable pub with_free : List ℕ → Image → Result Image Damage
+with_free used image = told_by free_damage (unless (find (is_free image.free) used) image)
 
 -- What a file reads as that may have so many blocks: each test in its order, and the first that fails is its damage.
-unfoldable pub read_file : List ℕ → ℕ → Result Image OpenFault
+unfoldable pub read_file : List ℕ → ℕ → Result Image Damage
 read_file file limit = do
   s ← superblock_in file limit
   listed ← listed_blocks file s
   streams ← streams_in file s listed
   with_free (used_blocks listed streams) (record { head = s; directory = streams; free = free_blocks_in file s })
-
--- What a function answered, seen by view, is what the file tells, unless the device failed or memory ran out.
-abbrev pub Tells : {X A : Type 0} → (X → A) → Result X OpenFault → Result A OpenFault → Type 0
-Tells view (Ok x) told = told ≡ Ok (view x)
-Tells view (Err (Damage kind place)) told = told ≡ Err (Damage kind place)
-Tells view (Err DiskFault) told = Unit {0}
-Tells view (Err OutOfMemory) told = Unit {0}
 
 -- what stands of a file that was opened, whatever bytes the device gave
 pub record IsWhole (image : Image) : Type 0 where
@@ -104,6 +80,8 @@ pub record IsWhole (image : Image) : Type 0 where
   pub size : image.free.blocks ≡ image.head.blocks
   pub inside : All (λ b. b < image.head.blocks) image.free.free
   pub unreserved : All (λ b. ¬ IsReserved image.head.block b) image.free.free
+  -- and listed in rising order
+  pub rising : IsStrictlyIncreasing image.free.free
 
 -- The content of a stream: its blocks joined, and cut to its size. An absent stream, and one that is not there, has none.
 abbrev pub content_of : List ℕ → Super → Option StreamBlocks → List ℕ

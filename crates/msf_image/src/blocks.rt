@@ -1,8 +1,8 @@
 //! Blocks of the file, read from the device.
 
 ghost use Rattle.std.specs.Prelude.{◌≡◌, ◌≤◌, ◌<◌, ◌+◌, ◌*◌, ◌^◌, ◌++◌, IsTrue, All, length, IfOk, OnOk, IsErrOf};
-ghost use Rattle.srv_edge.specs.Count.{Rose};
-ghost use Rattle.srv_edge.specs.Disk.{LeavesOnly};
+ghost use Rattle.srv_edge.specs.Count.{HasCause};
+ghost use Rattle.srv_edge.specs.Reading.{OnlyReads};
 ghost use Rattle.msf_blocks.specs.Blocks.{IsBlockSize};
 ghost use Rattle.msf_image.specs.Reads.{block_bytes, bytes_of_blocks};
 
@@ -46,14 +46,14 @@ pub fn read_blocks<D: Device>(
 ) -> Result<Vec<u8>, ReadFault>
     requires size { IsBlockSize block_size }
     requires few { length blocks.now ≤ 2 ^ 32 }
-    requires inside { IsTrue D.tells → All (λ b. b * block_size + block_size ≤ length (D.seen device.old)) blocks.now }
+    requires inside { IsTrue D.tells
+        → All (λ b. b * block_size + block_size ≤ length (D.seen device.old)) blocks.now }
     ensures len { IfOk result (λ bytes. length bytes.items ≡ length blocks.now * block_size) }
-    ensures bytes { IsTrue D.tells → IfOk result (λ bytes. bytes.items ≡ bytes_of_blocks block_size (D.seen device.old) blocks.now) }
-    ensures failed { IsErrOf result ReadFault.Failed → Rose (D.fault_count device.old) (D.fault_count device.new) }
-    ensures seen { D.seen device.new ≡ D.seen device.old }
-    ensures any_moment { LeavesOnly D.moment D.left_since device.old device.new (D.may_leave device.old) }
-    ensures loans { D.loans device.new ≡ D.loans device.old }
-    ensures never_falls { D.fault_count device.old ≤ D.fault_count device.new }
+    ensures bytes { IsTrue D.tells → IfOk result
+        (λ bytes. bytes.items ≡ bytes_of_blocks block_size (D.seen device.old) blocks.now) }
+    ensures failed { HasCause (IsErrOf result ReadFault.Failed)
+        (D.fault_count device.old) (D.fault_count device.new) }
+    ensures only_reads { OnlyReads D.Device device.old device.new }
 {
     let mut bytes = Vec::with_capacity(alloc, blocks.len() * block_size as usize)?;
     for b in blocks {
@@ -72,12 +72,11 @@ fn read_block<D: Device>(
     requires size { IsBlockSize block_size }
     requires inside { IsTrue D.tells → b * block_size + block_size ≤ length (D.seen device.old) }
     ensures len { OnOk result (length bytes.new.items ≡ length bytes.old.items + block_size) }
-    ensures bytes { IsTrue D.tells → OnOk result (bytes.new.items ≡ bytes.old.items ++ block_bytes block_size (D.seen device.old) b) }
-    ensures failed { IsErrOf result ReadFault.Failed → Rose (D.fault_count device.old) (D.fault_count device.new) }
-    ensures seen { D.seen device.new ≡ D.seen device.old }
-    ensures any_moment { LeavesOnly D.moment D.left_since device.old device.new (D.may_leave device.old) }
-    ensures loans { D.loans device.new ≡ D.loans device.old }
-    ensures never_falls { D.fault_count device.old ≤ D.fault_count device.new }
+    ensures bytes { IsTrue D.tells → OnOk result
+        (bytes.new.items ≡ bytes.old.items ++ block_bytes block_size (D.seen device.old) b) }
+    ensures failed { HasCause (IsErrOf result ReadFault.Failed)
+        (D.fault_count device.old) (D.fault_count device.new) }
+    ensures only_reads { OnlyReads D.Device device.old device.new }
 {
     let end = bytes.len();
     bytes.resize(end + block_size as usize, 0)?;

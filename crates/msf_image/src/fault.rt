@@ -1,12 +1,12 @@
 ghost use Rattle.std.specs.Prelude.{◌≡◌};
-ghost use Rattle.msf_image.specs.Faults.{fault_of_directory, fault_of_read, fault_of_superblock, kind_text};
+ghost use Rattle.msf_image.specs.Faults.{damage_of_directory, damage_of_superblock, fault_of_damage, fault_of_directory, fault_of_read, fault_of_superblock, kind_text};
 ghost use Rattle.msf_image.specs.declared.fault.OpenFault.TheVariants.{DiskFault, OutOfMemory};
 
 use crate::blocks::ReadFault;
 use msf_blocks::SuperFault;
 use srv_edge::Failed;
 use std::alloc::{AllocError, AllocFailed};
-use stream_directory::DirFault;
+use stream_directory::{DirDamage, DirFault};
 use thiserror::Error;
 
 /// What is wrong with a file. docs/FORMAT.md has the tests in their order.
@@ -48,11 +48,17 @@ impl DamageKind {
     }
 }
 
+/// The first test that a file fails, and where: an offset in the superblock or the directory, or a block's number.
+#[derive(Clone, Copy, Debug, PartialEq, Eq)]
+pub struct Damage {
+    pub kind: DamageKind,
+    pub place: u64,
+}
+
 /// Why a file was not opened, or not read.
 #[derive(Clone, Copy, Debug, PartialEq, Eq, Error)]
 pub enum OpenFault {
-    /// The first test that the file fails, and where: an offset in the superblock or the directory, or a
-    /// block's number.
+    /// The first test that the file fails, and where, as in a `Damage`.
     #[error("damage {} {place}", .kind.name())]
     Damage { kind: DamageKind, place: u64 },
     /// The device failed.
@@ -97,10 +103,21 @@ impl From<ReadFault> for OpenFault {
     }
 }
 
-impl From<SuperFault> for OpenFault {
-    ghost from_gives = { λ fault e. e ≡ fault_of_superblock fault };
+impl From<Damage> for OpenFault {
+    ghost from_gives = { λ damage e. e ≡ fault_of_damage damage };
 
-    fn from(fault: SuperFault) -> OpenFault {
+    fn from(damage: Damage) -> OpenFault {
+        OpenFault::Damage {
+            kind: damage.kind,
+            place: damage.place,
+        }
+    }
+}
+
+impl From<SuperFault> for Damage {
+    ghost from_gives = { λ fault damage. damage ≡ damage_of_superblock fault };
+
+    fn from(fault: SuperFault) -> Damage {
         let (kind, place) = match fault {
             SuperFault::Magic => (DamageKind::Magic, 0),
             SuperFault::BlockSize => (DamageKind::BlockSize, 32),
@@ -109,7 +126,30 @@ impl From<SuperFault> for OpenFault {
             SuperFault::Directory => (DamageKind::Directory, 44),
             SuperFault::MapAddr => (DamageKind::MapAddr, 52),
         };
-        OpenFault::Damage { kind, place }
+        Damage { kind, place }
+    }
+}
+
+impl From<DirDamage> for Damage {
+    ghost from_gives = { λ found damage. damage ≡ damage_of_directory found };
+
+    fn from(found: DirDamage) -> Damage {
+        let (kind, place) = match found {
+            DirDamage::Short { at } => (DamageKind::DirectoryShort, at),
+            DirDamage::Extra { at } => (DamageKind::DirectoryExtra, at),
+            DirDamage::ReservedBlock { block } => (DamageKind::ReservedBlock, u64::from(block)),
+            DirDamage::OutsideFile { block } => (DamageKind::OutsideFile, u64::from(block)),
+            DirDamage::BlockTwice { block } => (DamageKind::BlockTwice, u64::from(block)),
+        };
+        Damage { kind, place }
+    }
+}
+
+impl From<SuperFault> for OpenFault {
+    ghost from_gives = { λ fault e. e ≡ fault_of_superblock fault };
+
+    fn from(fault: SuperFault) -> OpenFault {
+        OpenFault::from(Damage::from(fault))
     }
 }
 
@@ -117,14 +157,9 @@ impl From<DirFault> for OpenFault {
     ghost from_gives = { λ fault e. e ≡ fault_of_directory fault };
 
     fn from(fault: DirFault) -> OpenFault {
-        let (kind, place) = match fault {
-            DirFault::Short { at } => (DamageKind::DirectoryShort, at),
-            DirFault::Extra { at } => (DamageKind::DirectoryExtra, at),
-            DirFault::ReservedBlock { block } => (DamageKind::ReservedBlock, u64::from(block)),
-            DirFault::OutsideFile { block } => (DamageKind::OutsideFile, u64::from(block)),
-            DirFault::BlockTwice { block } => (DamageKind::BlockTwice, u64::from(block)),
-            DirFault::OutOfMemory => return OpenFault::OutOfMemory,
-        };
-        OpenFault::Damage { kind, place }
+        match fault {
+            DirFault::Damage(found) => OpenFault::from(Damage::from(found)),
+            DirFault::OutOfMemory => OpenFault::OutOfMemory,
+        }
     }
 }

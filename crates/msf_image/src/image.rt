@@ -1,9 +1,10 @@
-ghost use Rattle.std.specs.Prelude.{◌≡◌, ◌≤◌, ◌*◌, ℕ, IsTrue, length, IfOk, IsErrOf};
-ghost use Rattle.srv_edge.specs.Count.{Rose};
-ghost use Rattle.srv_edge.specs.Disk.{LeavesOnly};
+ghost use Rattle.std.specs.Prelude.{◌≡◌, ◌≤◌, ◌*◌, ◌-◌, ℕ, IsTrue, List, [], Option, None, length, slice_index_or, unwrap_or, IfOk, IsErrOf};
+ghost use Rattle.srv_edge.specs.Count.{HasCause};
+ghost use Rattle.srv_edge.specs.Reading.{OnlyReads};
 ghost use Rattle.stream_directory.specs.Directory.{stream_at};
 ghost use Rattle.msf_image.specs.declared.fault.DamageKind.{DamageKind};
-ghost use Rattle.msf_image.specs.Reads.{IsWhole, content_of};
+ghost use Rattle.msf_image.specs.Reads.{HasBlocks, IsWhole, content_of};
+ghost use Rattle.msf_image.specs.Relation.{Reads};
 
 use crate::blocks::read_blocks;
 use crate::fault::OpenFault;
@@ -31,15 +32,19 @@ impl Image {
         stream: u32,
     ) -> Result<Vec<u8>, OpenFault>
         requires whole { IsWhole self.now }
-        requires inside { IsTrue D.tells → self.now.head.blocks * self.now.head.block ≤ length (D.seen device.old) }
-        ensures content { IsTrue D.tells → IfOk result (λ bytes. bytes.items ≡ content_of (D.seen device.old) self.now.head (stream_at self.now.directory stream)) }
-        ensures no_damage { (kind : DamageKind) (place : ℕ) → ¬ IsErrOf result (OpenFault.Damage kind place) }
-        ensures disk_fault { IsErrOf result OpenFault.DiskFault → Rose (D.fault_count device.old) (D.fault_count device.new) }
-        ensures seen { D.seen device.new ≡ D.seen device.old }
-        // A crash at any moment leaves what it might have left at the start.
-        ensures any_moment { LeavesOnly D.moment D.left_since device.old device.new (D.may_leave device.old) }
-        ensures loans { D.loans device.new ≡ D.loans device.old }
-        ensures never_falls { D.fault_count device.old ≤ D.fault_count device.new }
+        requires inside { IsTrue D.tells → HasBlocks (D.seen device.old) self.now.head }
+        ensures content { IsTrue D.tells → IfOk result
+            (λ bytes. bytes.items ≡ content_of (D.seen device.old) self.now.head
+            (stream_at self.now.directory stream)) }
+        // Of a file that reads as this image it is the stream's content.
+        ensures stream { (limit : ℕ) (streams : List (Option (List ℕ))) → IsTrue D.tells
+            → 1 ≤ stream → Reads (D.seen device.old) limit self.now streams → IfOk result
+            (λ bytes. bytes.items ≡ unwrap_or (slice_index_or streams (stream - 1) None) []) }
+        ensures no_damage { (kind : DamageKind) (place : ℕ)
+            → ¬ IsErrOf result (OpenFault.Damage kind place) }
+        ensures disk_fault { HasCause (IsErrOf result OpenFault.DiskFault)
+            (D.fault_count device.old) (D.fault_count device.new) }
+        ensures only_reads { OnlyReads D.Device device.old device.new }
     {
         let Some(Some(kept)) = self.directory.streams().get(stream as usize) else {
             return Ok(Vec::new(alloc));

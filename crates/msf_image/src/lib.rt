@@ -8,11 +8,14 @@ mod laws;
 mod open;
 mod packed;
 
-pub use crate::fault::{DamageKind, OpenFault};
+pub use crate::fault::{Damage, DamageKind, OpenFault};
 pub use crate::image::Image;
-pub use crate::laws::{given_in_order, packed_file_reads};
+pub use crate::laws::{
+    given_in_order, judged_where_it_reads, packed_file_reads, reading_hangs_on_its_source,
+    torn_write_spares,
+};
 pub use crate::open::open_image;
-pub use crate::packed::{is_packable, new_file};
+pub use crate::packed::{NewImage, is_packable, new_file, new_image};
 
 #[cfg(test)]
 mod open_tests;

@@ -1,19 +1,21 @@
 //! The packed file: streams in a file that has no free block. docs/FORMAT.md says where each block stands.
 
-ghost use Rattle.std.specs.Prelude.{◌≡◌, ◌≤◌, ◌<◌, ◌↔◌, ℕ, ◌+◌, ◌*◌, ◌^◌, ◌++◌, [], Ok, None, All, length, replicate, slice_index_or, IsTrue, IfOk, OnOk};
+ghost use Rattle.std.specs.Prelude.{◌≡◌, ◌≤◌, ◌<◌, ◌↔◌, ℕ, ◌+◌, ◌*◌, ◌^◌, ◌++◌, [], None, All, drop, length, replicate, slice_index_or, IsTrue, IfOk, OnOk};
 ghost use Rattle.std.specs.List.{flat_map};
 ghost use Rattle.msf_blocks.specs.Blocks.{IsBlockSize};
 ghost use Rattle.msf_blocks.specs.Superblock.{superblock_text};
 ghost use Rattle.free_page_maps.specs.MapText.{map_text};
-ghost use Rattle.stream_directory.specs.Directory.{absent_size, stream_at, word};
-ghost use Rattle.msf_image.specs.Reads.{content_of, read_file};
-ghost use Rattle.msf_image.specs.Packed.{IsPackable, IsSmall, block_of, file_block, file_of, filled, given, given_before, given_from, none_of, packed, packed_directory, packed_image, packed_map_addr, packed_super, present, stream_blocks, stream_bytes};
+ghost use Rattle.stream_directory.specs.Directory.{absent_size, word};
+ghost use Rattle.msf_image.specs.Reads.{IsWhole};
+ghost use Rattle.msf_image.specs.Relation.{Reads};
+ghost use Rattle.msf_image.specs.Packed.{IsPackable, IsSmall, block_of, file_block, file_of, filled, given, given_before, given_from, none_of, packed, packed_directory, packed_image, packed_listed, packed_map_addr, packed_super, present, stream_blocks, stream_bytes};
 
+use crate::image::Image;
 use free_page_maps::FreeMap;
 use msf_blocks::{Super, blocks_of_size, is_block_size, write_super};
-use srv_edge::{Text, word};
+use srv_edge::Text;
 use std::alloc::{AllocError, Global};
-use stream_directory::{ABSENT_SIZE, Directory, Stream, write_directory};
+use stream_directory::{ABSENT_SIZE, Directory, Stream, put_words, write_directory};
 
 // A packed file has no more blocks, and fewer streams.
 const MOST_BLOCKS: u32 = 1_048_576;
@@ -26,8 +28,9 @@ pub fn new_file(alloc: Global, block: u32, streams: &[Text]) -> Result<Vec<u8>, 
     requires { IsPackable block (present streams.now) }
     ensures packed { IfOk result (λ file. file.items ≡ packed block 0 (present streams.now)) }
     // It reads as these streams, with no free block.
-    ensures reads { (limit : ℕ) → (packed_super block 0 (present streams.now)).blocks ≤ limit → IfOk result (λ file. read_file file.items limit ≡ Ok (packed_image block 0 (present streams.now))) }
-    ensures contents { (i : ℕ) → IfOk result (λ file. content_of file.items (packed_super block 0 (present streams.now)) (stream_at (packed_directory block (present streams.now)) i) ≡ slice_index_or streams.now i []) }
+    ensures reads { (limit : ℕ) → (packed_super block 0 (present streams.now)).blocks ≤ limit
+        → IfOk result (λ file. Reads file.items limit (packed_image block 0 (present streams.now))
+        (drop 1 (present streams.now))) }
 {
     lay_file(alloc, block, streams)
 }
@@ -98,20 +101,35 @@ fn stream_blocks(block: u32, streams: &[Text]) -> u64
     sum
 }
 
-// The file of streams that it can hold.
-fn lay_file(alloc: Global, block: u32, streams: &[Text]) -> Result<Vec<u8>, AllocError>
+/// What a packed file reads as, and the blocks in which its directory lies.
+#[derive(Drop)]
+pub struct NewImage {
+    pub image: Image,
+    pub listed: Vec<u32>,
+}
+
+/// The image of the packed file of these streams, whose number without a known meaning is 0. It takes memory for the
+/// directory and the map alone.
+pub fn new_image(alloc: Global, block: u32, streams: &[Text]) -> Result<NewImage, AllocError>
     requires { IsPackable block (present streams.now) }
-    ensures { IfOk result (λ file. file.items ≡ packed block 0 (present streams.now)) }
+    ensures image { IfOk result (λ new. new.image ≡ packed_image block 0 (present streams.now)) }
+    ensures listed { IfOk result (λ new. new.listed.items
+        ≡ packed_listed block (present streams.now)) }
+    ensures whole { IfOk result (λ new. IsWhole new.image) }
+{
+    lay_image(alloc, block, streams)
+}
+
+fn lay_image(alloc: Global, block: u32, streams: &[Text]) -> Result<NewImage, AllocError>
+    requires { IsPackable block (present streams.now) }
+    ensures image { IfOk result (λ new. new.image ≡ packed_image block 0 (present streams.now)) }
+    ensures listed { IfOk result (λ new. new.listed.items
+        ≡ packed_listed block (present streams.now)) }
 {
     let kept = stream_blocks(block, streams) as u32;
-    let directory = directory_of(alloc, block, streams)?;
-    let text = write_directory(alloc, &directory)?;
-    let dir_bytes = text.len() as u32;
+    let dir_bytes = 4 + 4 * streams.len() as u32 + 4 * kept;
     let count = blocks_of_size(block, dir_bytes);
-    let listed = given_from(alloc, block, kept, count)?;
-    let last = kept + count;
-    let content = content_of(alloc, block, last, streams, &text, &listed)?;
-    let map_addr = given(block, last);
+    let map_addr = given(block, kept + count);
     let head = Super {
         block,
         map: 1,
@@ -120,8 +138,36 @@ fn lay_file(alloc: Global, block: u32, streams: &[Text]) -> Result<Vec<u8>, Allo
         unknown: 0,
         map_addr,
     };
-    let map = map_of_none(alloc, block, head.blocks)?;
-    file_of(alloc, &head, &map, &content)
+    let directory = directory_of(alloc, block, streams)?;
+    let listed = given_from(alloc, block, kept, count)?;
+    let free = none_free(alloc, block, head.blocks)?;
+    Ok(NewImage {
+        image: Image {
+            head,
+            directory,
+            free,
+        },
+        listed,
+    })
+}
+
+// The file of streams that it can hold.
+fn lay_file(alloc: Global, block: u32, streams: &[Text]) -> Result<Vec<u8>, AllocError>
+    requires { IsPackable block (present streams.now) }
+    ensures { IfOk result (λ file. file.items ≡ packed block 0 (present streams.now)) }
+{
+    let new = lay_image(alloc, block, streams)?;
+    let text = write_directory(alloc, &new.image.directory)?;
+    let content = content_of(
+        alloc,
+        block,
+        new.image.head.blocks,
+        streams,
+        &text,
+        &new.listed,
+    )?;
+    let map = new.image.free.scatter(alloc, block)?;
+    file_of(alloc, &new.image.head, &map, &content)
 }
 
 // The directory: each stream with the blocks that come next.
@@ -164,11 +210,11 @@ fn given(block: u32, k: u32) -> u32
     3 + k + 2 * (k / (block - 2))
 }
 
-// What the given blocks hold, of which the last is the block map.
+// What the given blocks hold. It takes memory for so many blocks.
 fn content_of(
     alloc: Global,
     block: u32,
-    last: u32,
+    room: u32,
     streams: &[Text],
     text: &[u8],
     listed: &[u32],
@@ -176,9 +222,10 @@ fn content_of(
     requires size { IsBlockSize block }
     requires sizes { All (λ stream. length stream < absent_size) streams.now }
     requires short { length text.now < absent_size }
-    ensures { IfOk result (λ content. content.items ≡ flat_map (filled block) streams.now ++ (filled block text.now ++ flat_map word listed.now)) }
+    ensures { IfOk result (λ content. content.items ≡ flat_map (filled block) streams.now
+        ++ (filled block text.now ++ flat_map word listed.now)) }
 {
-    let mut content = Vec::with_capacity(alloc, (last as usize + 1) * block as usize)?;
+    let mut content = Vec::with_capacity(alloc, room as usize * block as usize)?;
     for stream in streams {
         put_filled(&mut content, block, stream.bytes())?;
     }
@@ -207,31 +254,21 @@ fn put_zeros(bytes: &mut Vec<u8>, count: usize) -> Result<(), AllocError>
     bytes.resize(end, 0)
 }
 
-// Puts numbers behind bytes.
-fn put_words(bytes: &mut Vec<u8>, words: &[u32]) -> Result<(), AllocError>
-    ensures { OnOk result (bytes.new.items ≡ bytes.old.items ++ flat_map word words.now) }
-{
-    for n in words {
-        bytes.extend_from_slice(&word(*n))?;
-    }
-    Ok(())
-}
-
-// The meaningful blocks of a map of which no block is free.
-fn map_of_none(alloc: Global, block: u32, blocks: u32) -> Result<Vec<u8>, AllocError>
+// So many blocks of which none is free.
+fn none_free(alloc: Global, block: u32, blocks: u32) -> Result<FreeMap, AllocError>
     requires size { IsBlockSize block }
-    ensures { IfOk result (λ map. map.items ≡ map_text block (none_of blocks)) }
+    ensures { IfOk result (λ free. free ≡ none_of blocks) }
 {
     let zeros = vec![in alloc; 0; blocks as usize / 8 + 1]?;
-    let free = FreeMap::gather(alloc, block, blocks, &zeros)?;
-    free.scatter(alloc, block)
+    FreeMap::gather(alloc, block, blocks, &zeros)
 }
 
 // The blocks of the file, joined.
 #[tactic(auto, unfolding(crate::specs::Packed::file_of))]
 fn file_of(alloc: Global, head: &Super, map: &[u8], content: &[u8]) -> Result<Vec<u8>, AllocError>
     requires size { IsBlockSize head.now.block }
-    ensures { IfOk result (λ file. file.items ≡ file_of head.now.block (superblock_text head.now) map.now content.now head.now.blocks) }
+    ensures { IfOk result (λ file. file.items
+        ≡ file_of head.now.block (superblock_text head.now) map.now content.now head.now.blocks) }
 {
     let text = write_super(head);
     let mut file = Vec::with_capacity(alloc, head.blocks as usize * head.block as usize)?;
@@ -252,7 +289,8 @@ fn put_file_block(
     b: u32,
 ) -> Result<(), AllocError>
     requires size { IsBlockSize block }
-    ensures { OnOk result (file.new.items ≡ file.old.items ++ file_block block head.now map.now content.now b) }
+    ensures { OnOk result (file.new.items ≡ file.old.items
+        ++ file_block block head.now map.now content.now b) }
 {
     if b == 0 {
         put_block(file, block, head, 0)

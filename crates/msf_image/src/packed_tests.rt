@@ -42,12 +42,17 @@ fn streams_of(alloc: Global, sizes: &[usize]) -> Result<Vec<Text>, AllocError> {
     Ok(streams)
 }
 
+// An empty stream, and one of three bytes.
+fn two_streams(alloc: Global) -> Result<Vec<Text>, AllocError> {
+    let mut streams = streams_of(alloc, &[0])?;
+    streams.push(Text::new([1, 2, 3].to_vec(alloc)?))?;
+    Ok(streams)
+}
+
 #[test]
 fn one_small_stream(rt: HostRuntime) -> Result<(), Fail> {
     let alloc = rt.alloc();
-    let mut streams = streams_of(alloc, &[0])?;
-    streams.push(Text::new([1, 2, 3].to_vec(alloc)?))?;
-    let file = made(alloc, 512, &streams)?;
+    let file = made(alloc, 512, &two_streams(alloc)?)?;
     assert_eq!(rt; file.len(), 3_072);
     let numbers = [
         0x00, 0x02, 0x00, 0x00, 0x01, 0x00, 0x00, 0x00, 0x06, 0x00, 0x00, 0x00, 0x10, 0x00, 0x00,
@@ -65,42 +70,48 @@ fn one_small_stream(rt: HostRuntime) -> Result<(), Fail> {
     Ok(())
 }
 
-// Streams 1, 2, 4 and 7 have a block each, the directory has block 7, and the block map is block 8.
+// Streams 1, 2, 4 and 7 have a block each, the directory has block 7, and the block map is block 8, at any size.
 #[test]
 fn eight_streams(rt: HostRuntime) -> Result<(), Fail> {
     let alloc = rt.alloc();
     let sizes = [0, 75, 56, 0, 56, 0, 0, 29];
-    let file = made(alloc, 4096, &streams_of(alloc, &sizes)?)?;
-    assert_eq!(rt; file.len(), 36_864);
-    let numbers = [
-        0x00, 0x10, 0x00, 0x00, 0x01, 0x00, 0x00, 0x00, 0x09, 0x00, 0x00, 0x00, 0x34, 0x00, 0x00,
-        0x00, 0x00, 0x00, 0x00, 0x00, 0x08, 0x00, 0x00, 0x00,
-    ];
-    assert_eq!(rt; file.get(32..56), Some(numbers.as_slice()));
-    assert_eq!(rt; file.get(4096..4098), Some([0x00, 0xfe].as_slice()));
-    assert!(rt; file.iter().skip(4098).take(4094).all(|byte| *byte == 0xff));
-    // The directory begins with the number of its streams, and the block map names its one block.
-    assert_eq!(rt; file.get(28_672..28_676), Some([8, 0, 0, 0].as_slice()));
-    assert_eq!(rt;
-        file.get(32_768..32_776),
-        Some([7, 0, 0, 0, 0, 0, 0, 0].as_slice())
-    );
-    let mut number = 0u8;
-    for size in sizes {
-        let want = vec![in alloc; number; size]?;
-        assert_eq!(rt;
-            stream_of(alloc, &file, u32::from(number))?,
-            want,
-            "stream {number}"
-        );
-        number = number.wrapping_add(1);
-    }
-    for (stream, block) in [(1, 3), (2, 4), (4, 5), (7, 6)] {
-        assert_eq!(rt;
-            blocks_of(alloc, &file, stream)?.as_slice(),
-            [block].as_slice(),
-            "stream {stream}"
-        );
+    // The size of a block, its two lower bytes, and the length of the file.
+    for (block, [low, high], len) in [
+        (4096, [0x00, 0x10], 36_864),
+        (32_768, [0x00, 0x80], 294_912),
+    ] {
+        let file = made(alloc, block, &streams_of(alloc, &sizes)?)?;
+        assert_eq!(rt; file.len(), len);
+        let numbers = [
+            low, high, 0x00, 0x00, 0x01, 0x00, 0x00, 0x00, 0x09, 0x00, 0x00, 0x00, 0x34, 0x00,
+            0x00, 0x00, 0x00, 0x00, 0x00, 0x00, 0x08, 0x00, 0x00, 0x00,
+        ];
+        assert_eq!(rt; file.get(32..56), Some(numbers.as_slice()));
+        let block = block as usize;
+        let mut map = file.iter().skip(block).take(block);
+        assert_eq!(rt; map.next(), Some(&0x00));
+        assert_eq!(rt; map.next(), Some(&0xfe));
+        assert!(rt; map.all(|byte| *byte == 0xff));
+        // The directory begins with the number of its streams, and the block map names its one block.
+        assert_eq!(rt; file.get(7 * block), Some(&8));
+        assert_eq!(rt; file.get(8 * block), Some(&7));
+        let mut number = 0u8;
+        for size in sizes {
+            let want = vec![in alloc; number; size]?;
+            assert_eq!(rt;
+                stream_of(alloc, &file, u32::from(number))?,
+                want,
+                "stream {number}"
+            );
+            number = number.wrapping_add(1);
+        }
+        for (stream, block) in [(1, 3), (2, 4), (4, 5), (7, 6)] {
+            assert_eq!(rt;
+                blocks_of(alloc, &file, stream)?.as_slice(),
+                [block].as_slice(),
+                "stream {stream}"
+            );
+        }
     }
     Ok(())
 }
@@ -130,6 +141,24 @@ fn second_map_pair(rt: HostRuntime) -> Result<(), Fail> {
         stream_of(alloc, &file, 2)?.as_slice(),
         [2, 2, 2, 2, 2].as_slice()
     );
+    Ok(())
+}
+
+// A file of six blocks at each size, of which none is free.
+#[test]
+fn each_size(rt: HostRuntime) -> Result<(), Fail> {
+    let alloc = rt.alloc();
+    for block in [512, 1024, 2048, 4096, 8192, 16_384, 32_768] {
+        let file = made(alloc, block, &two_streams(alloc)?)?;
+        assert_eq!(rt; file.len(), 6 * block as usize, "{block}");
+        let mut device = MemDevice::new(alloc, file, Vec::new(alloc));
+        let image = open_image(alloc, &mut device, 6)?;
+        assert_eq!(rt; image.head.block, block);
+        assert_eq!(rt; image.head.map_addr, 5, "{block}");
+        assert_eq!(rt; image.free.len(), 0, "{block}");
+        let content = image.read_stream(alloc, &mut device, 1)?;
+        assert_eq!(rt; content.as_slice(), [1, 2, 3].as_slice(), "{block}");
+    }
     Ok(())
 }
 

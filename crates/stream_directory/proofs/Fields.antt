@@ -1,9 +1,10 @@
 -- The fields of a text, read as words.
 use Rattle.std.proofs.Common.{◌≡◌, ◌≤◌, ◌<◌, ◌+◌, ◌*◌, ℕ, zero, suc, List, [], ◌∷◌, ◌++◌, Ok, Err, length, take, drop, refl, sym, ap, ◌∙◌, arith}
 use Rattle.std.proofs.lemmas.List.{append_assoc, drop-drop, length-drop}
+use Rattle.msf_blocks.specs.Judging.{◌>>=◌}
 use Rattle.byteorder.specs.Endian.{little_number}
-use Rattle.stream_directory.specs.declared.fault.DirFault.TheVariants.{Short}
-use Rattle.stream_directory.specs.Reading.{◌>>=◌, fields_at, words_in}
+use Rattle.stream_directory.specs.declared.fault.DirDamage.TheVariants.{Short}
+use Rattle.stream_directory.specs.Reading.{fields_at, words_in}
 
 pub fields_at-fits : (at n : ℕ) (words : List ℕ) → n ≤ length words → fields_at at n words ≡ Ok (take n words, drop n words)
 unfolding fields_at

@@ -1,14 +1,13 @@
 -- Blocks that are marked as used, one after the other.
 use Rattle.std.proofs.Common.{◌≡◌, ◌≢◌, ◌≤◌, ◌<◌, ◌+◌, ◌||◌, ℕ, Bool, true, false, List, [], ◌∷◌, ◌++◌, Option, Some, None, length, get_or, take, drop, refl, sym, ap, ◌∙◌, inl, inr, eqb}
 use Rattle.std.specs.List.{list_any}
+use Rattle.std.specs.Option.{option_or}
 use Rattle.std.proofs.lemmas.Bool.{cases_eq, eq-eqb, ne_eqb}
 use Rattle.std.proofs.lemmas.List.{append_assoc, drop_all, drop_more, take_more}
 use Rattle.std.proofs.lemmas.List.Folds.{list_any-append}
 use Rattle.msf_blocks.specs.declared.superblock.Super.{Super}
 use Rattle.msf_blocks.specs.Bits.{has_bit}
-use Rattle.stream_directory.specs.declared.fault.DirFault.{DirFault}
-use Rattle.stream_directory.specs.declared.fault.DirFault.TheVariants.{Short, Extra, ReservedBlock, OutsideFile, BlockTwice, OutOfMemory}
-use Rattle.stream_directory.specs.Reading.{IsFound, block_fault, first_bad, or_fault}
+use Rattle.stream_directory.specs.Reading.{block_damage, first_bad}
 
 -- a block more is marked
 pub marked_more : (bits new xs : List ℕ) (b : ℕ) → ((k : ℕ) → has_bit bits k ≡ list_any (λ x. eqb x k) xs) → has_bit new b ≡ true → ((k : ℕ) → k ≢ b → has_bit new k ≡ has_bit bits k)
@@ -31,23 +30,14 @@ marked_more bits new xs b marked set others k =
 pub so_far : (earlier blocks : List ℕ) (i : ℕ) → i < length blocks → earlier ++ take (i + 1) blocks ≡ (earlier ++ take i blocks) ++ get_or blocks i 0 ∷ []
 so_far earlier blocks i lt = ap (λ xs. earlier ++ xs) (take_more blocks i 0 lt) ∙ sym (append_assoc earlier (take i blocks) (get_or blocks i 0 ∷ []))
 
--- the first fault, one block on
+-- the first damage, one block on
 pub first_bad-more : (s : Super) (earlier blocks : List ℕ) (i : ℕ) (is_used : Bool) → i < length blocks → is_used ≡ list_any (λ x. eqb x (get_or blocks i 0)) (earlier ++ take i blocks)
-    → first_bad s (earlier ++ take i blocks) (drop i blocks) ≡ or_fault (block_fault s is_used (get_or blocks i 0)) (first_bad s (earlier ++ take (i + 1) blocks) (drop (i + 1) blocks))
+    → first_bad s (earlier ++ take i blocks) (drop i blocks) ≡ option_or (block_damage s is_used (get_or blocks i 0)) (first_bad s (earlier ++ take (i + 1) blocks) (drop (i + 1) blocks))
 unfolding first_bad
 first_bad-more s earlier blocks i is_used lt is =
     ap (first_bad s (earlier ++ take i blocks)) (drop_more blocks i 0 lt)
-    ∙ ap (λ t. or_fault (block_fault s t (get_or blocks i 0)) (first_bad s ((earlier ++ take i blocks) ++ get_or blocks i 0 ∷ []) (drop (i + 1) blocks))) (sym is)
-    ∙ ap (λ xs. or_fault (block_fault s is_used (get_or blocks i 0)) (first_bad s xs (drop (i + 1) blocks))) (sym (so_far earlier blocks i lt))
-
--- a fault that is there is found
-pub IsFound-is : (fault : DirFault) (found : Option DirFault) → found ≡ Some fault → IsFound fault found
-IsFound-is (Short at) found e = e
-IsFound-is (Extra at) found e = e
-IsFound-is (ReservedBlock b) found e = e
-IsFound-is (OutsideFile b) found e = e
-IsFound-is (BlockTwice b) found e = e
-IsFound-is OutOfMemory found e = tt
+    ∙ ap (λ t. option_or (block_damage s t (get_or blocks i 0)) (first_bad s ((earlier ++ take i blocks) ++ get_or blocks i 0 ∷ []) (drop (i + 1) blocks))) (sym is)
+    ∙ ap (λ xs. option_or (block_damage s is_used (get_or blocks i 0)) (first_bad s xs (drop (i + 1) blocks))) (sym (so_far earlier blocks i lt))
 
 pub first_bad-end : (s : Super) (earlier blocks : List ℕ) (i : ℕ) → length blocks ≤ i → first_bad s earlier (drop i blocks) ≡ None
 unfolding first_bad

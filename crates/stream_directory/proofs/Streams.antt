@@ -1,19 +1,23 @@
 -- The streams of a directory: what is read is spelled so, and what is spelled so is read.
-use Rattle.std.proofs.Common.{◌≡◌, ◌≤◌, ◌<◌, ◌+◌, ◌*◌, ◌^◌, ℕ, Bool, true, false, cond, eqb, leb, List, [], ◌∷◌, ◌++◌, Option, Some, None, Result, Ok, Err, length, map, take, drop, get_or, refl, sym, ap, subst, ◌∙◌, inl, inr, lit<, arith}
+use Rattle.std.proofs.Common.{◌≡◌, ◌≤◌, ◌<◌, ◌+◌, ◌*◌, ◌^◌, ℕ, Bool, true, false, cond, not, eqb, ltb, List, [], ◌∷◌, ◌++◌, Option, Some, None, Result, Ok, Err, length, map, take, drop, get_or, refl, sym, ap, subst, ◌∙◌, inl, inr, lit<, arith}
 use Rattle.std.specs.Prelude.{IfOk}
 use Rattle.std.specs.Global.{Vec}
+use Rattle.std.specs.Option.{option_or}
 use Rattle.std.specs.List.{AllByRecursion, flat_map, list_any, sum_by}
-use Rattle.std.proofs.lemmas.Bool.{cases_Bool, cases_lt, eqb-true, eqb-false, eq-eqb, ne_eqb, leb-false, lt-leb, false_from_ne_true, both_ways}
+use Rattle.std.proofs.lemmas.Bool.{cases_Bool, cases_lt, eqb-true, eqb-false, eq-eqb, ne_eqb, lt-ltb, ltb-true, not-true, not_from_false, false_from_ne_true, both_ways}
 use Rattle.std.proofs.lemmas.List.{append-nil, take_all, drop_all, take_at, drop_at, take-append-drop, length-append, length-take, length-drop, length-map, nil_from_length}
 use Rattle.std.proofs.lemmas.List.Sums.{sum_by-cons}
 use Rattle.byteorder.specs.Endian.{little_bytes, little_number}
 use Rattle.msf_blocks.specs.declared.superblock.Super.{Super}
 use Rattle.msf_blocks.specs.Blocks.{is_reserved, blocks_of_size}
+use Rattle.msf_blocks.specs.Judging.{◌>>=◌, Tells, first_damage, unless}
+use Rattle.msf_blocks.proofs.Judging.{bound_ok, is_passed, unless_ok, was_passed}
 use Rattle.msf_blocks.proofs.Numbers.{AreBytes, AreBytes-drop, little_bytes-little_number, little_number-little_bytes, little_number-lt}
 use Rattle.stream_directory.specs.declared.fault.DirFault.{DirFault}
-use Rattle.stream_directory.specs.declared.fault.DirFault.TheVariants.{Extra, ReservedBlock, OutsideFile, BlockTwice}
+use Rattle.stream_directory.specs.declared.fault.DirDamage.{DirDamage}
+use Rattle.stream_directory.specs.declared.fault.DirDamage.TheVariants.{Extra, ReservedBlock, OutsideFile, BlockTwice}
 use Rattle.stream_directory.specs.Directory.{StreamBlocks, absent_size, size_field, blocks_in, block_count, skipped_count, word, numbers_behind, directory_text, Spells, IsSized, IsFirst, AreSized, AreUsable, IsDirectory}
-use Rattle.stream_directory.specs.Reading.{◌>>=◌, words_in, fields_at, parts_of, block_fault, or_fault, first_bad, stream_of, streams_of, directory_of, unless, reading, Gives}
+use Rattle.stream_directory.specs.Reading.{words_in, fields_at, parts_of, block_damage, directory_damage, first_bad, stream_of, streams_of, directory_of, reading}
 use Rattle.stream_directory.proofs.Counts.{length-directory_of, skipped_and_others}
 use Rattle.stream_directory.proofs.Fields.{fields_at-fits, fields_at-short}
 
@@ -71,21 +75,16 @@ unfolding words_in
 words_in-again [] h = refl
 words_in-again (n ∷ words) h = ap (λ k. k ∷ words_in (flat_map word words)) (little_number-little_bytes n [] h.0) ∙ ap (λ ws. n ∷ ws) (words_in-again words h.1)
 
-length-words : (words : List ℕ) → length (flat_map word words) ≡ 4 * length words
+pub length-words : (words : List ℕ) → length (flat_map word words) ≡ 4 * length words
 length-words [] = refl
 length-words (n ∷ words) = let h = length-words words in omega (arith, h)
 
 -- ---- the parts of a text
 
-bind_ok : {A B : Type 0} (r : Result A DirFault) (f : A → Result B DirFault) (y : B) → (r >>= f) ≡ Ok y → (x : A) × (r ≡ Ok x) × (f x ≡ Ok y)
-bind_ok (Ok x) f y e = (x, refl, e)
-bind_ok (Err d) f y e = absurd cc
+end_ok : {A : Type 0} (b : Bool) (d : DirDamage) (x y : A) → unless (first_damage ((b, d) ∷ [])) x ≡ Ok y → (b ≡ true) × (x ≡ y)
+end_ok b d x y e = let is = unless_ok (first_damage ((b, d) ∷ [])) x y e in ((was_passed b d [] is.0).0, is.1)
 
-guard_ok : {A : Type 0} (b : Bool) (d : DirFault) (x y : A) → cond b (Ok x) (Err d) ≡ Ok y → (b ≡ true) × (x ≡ y)
-guard_ok true d x y e = (refl, cc)
-guard_ok false d x y e = absurd cc
-
-abbrev done : {A : Type 0} → A → Result A DirFault
+abbrev done : {A : Type 0} → A → Result A DirDamage
 done x = Ok x
 
 ok_is : {A : Type 0} (x y : A) → done x ≡ done y → x ≡ y
@@ -115,26 +114,26 @@ one_word (x ∷ []) e = refl
 one_word (x ∷ y ∷ xs) e = absurd (omega (arith, e))
 
 -- the steps of reading the parts
-abbrev ended : List ℕ → List ℕ → List ℕ → Result (List ℕ × List ℕ) DirFault
+abbrev ended : List ℕ → List ℕ → List ℕ → Result (List ℕ × List ℕ) DirDamage
 ended bytes sizes numbers =
-    let end = 4 + 4 * length sizes + 4 * length numbers in cond (eqb end (length bytes)) (Ok (sizes, numbers)) (Err (Extra end))
+    let end = 4 + 4 * length sizes + 4 * length numbers in unless (first_damage ((eqb end (length bytes), Extra end) ∷ [])) (sizes, numbers)
 
-abbrev behind_sizes : ℕ → List ℕ → List ℕ × List ℕ → Result (List ℕ × List ℕ) DirFault
+abbrev behind_sizes : ℕ → List ℕ → List ℕ × List ℕ → Result (List ℕ × List ℕ) DirDamage
 behind_sizes block_size bytes sizes =
     fields_at (4 + 4 * length sizes.0) (sum_by (block_count block_size) sizes.0) sizes.1 >>= λ numbers. ended bytes sizes.0 numbers.0
 
-abbrev behind_count : ℕ → List ℕ → List ℕ × List ℕ → Result (List ℕ × List ℕ) DirFault
+abbrev behind_count : ℕ → List ℕ → List ℕ × List ℕ → Result (List ℕ × List ℕ) DirDamage
 behind_count block_size bytes count = fields_at 4 (get_or count.0 0 0) count.1 >>= behind_sizes block_size bytes
 
 parts_are : (block_size : ℕ) (bytes : List ℕ) (parts : List ℕ × List ℕ) → parts_of block_size bytes ≡ Ok parts → ArePartsOf block_size bytes parts.0 parts.1
 unfolding parts_of
 parts_are block_size bytes parts e =
     let counts = block_count block_size in
-    let a = bind_ok (fields_at 0 1 (words_in bytes)) (behind_count block_size bytes) parts e in
-    let b = bind_ok (fields_at 4 (get_or a.0.0 0 0) a.0.1) (behind_sizes block_size bytes) parts a.2 in
-    let c = bind_ok (fields_at (4 + 4 * length b.0.0) (sum_by counts b.0.0) b.0.1) (λ numbers. ended bytes b.0.0 numbers.0) parts b.2 in
+    let a = bound_ok (fields_at 0 1 (words_in bytes)) (behind_count block_size bytes) parts e in
+    let b = bound_ok (fields_at 4 (get_or a.0.0 0 0) a.0.1) (behind_sizes block_size bytes) parts a.2 in
+    let c = bound_ok (fields_at (4 + 4 * length b.0.0) (sum_by counts b.0.0) b.0.1) (λ numbers. ended bytes b.0.0 numbers.0) parts b.2 in
     let end = 4 + 4 * length b.0.0 + 4 * length c.0.0 in
-    let g = guard_ok (eqb end (length bytes)) (Extra end) (b.0.0, c.0.0) parts c.2 in
+    let g = end_ok (eqb end (length bytes)) (Extra end) (b.0.0, c.0.0) parts c.2 in
     let f1 = fields_at-ok 0 1 (words_in bytes) a.0.0 a.0.1 a.1 in
     let f2 = fields_at-ok 4 (get_or a.0.0 0 0) a.0.1 b.0.0 b.0.1 b.1 in
     let f3 = fields_at-ok (4 + 4 * length b.0.0) (sum_by counts b.0.0) b.0.1 c.0.0 c.0.1 c.1 in
@@ -169,7 +168,7 @@ parts_again block_size bytes sizes numbers text are count =
     ∙ ap (λ xs. Ok (numbers, xs)) (drop_all (sum_by counts sizes) numbers (omega (arith, count))) in
     let end : eqb (4 + 4 * length sizes + 4 * length numbers) (length bytes) ≡ true = eq-eqb (4 + 4 * length sizes + 4 * length numbers) (length bytes) (omega (arith, len, length-append sizes numbers)) in
     ap (λ r. r >>= behind_count block_size bytes) one ∙ ap (λ r. r >>= behind_sizes block_size bytes) two ∙ ap (λ r. r >>= λ numbers. ended bytes sizes numbers.0) three
-    ∙ ap (λ t. cond t (Ok (sizes, numbers)) (Err (Extra (4 + 4 * length sizes + 4 * length numbers)))) end
+    ∙ ap (λ t. unless (cond t None (Some (Extra (4 + 4 * length sizes + 4 * length numbers)))) (sizes, numbers)) end
 
 -- ---- streams of sizes and blocks
 
@@ -253,41 +252,33 @@ directory_of-is block_size (size ∷ sizes) kept words len =
 
 -- ---- blocks that may be used
 
-no_fault : (first other : Option DirFault) → or_fault first other ≡ None → (first ≡ None) × (other ≡ None)
-no_fault None other e = (refl, e)
-no_fault (Some fault) other e = absurd cc
+no_damage : (first other : Option DirDamage) → option_or first other ≡ None → (first ≡ None) × (other ≡ None)
+no_damage None other e = (refl, e)
+no_damage (Some damage) other e = absurd cc
 
--- a block without a fault
-usable_block : (s : Super) (is_used : Bool) (b : ℕ) → block_fault s is_used b ≡ None → (is_reserved s.block b ≡ false) × (b < s.blocks) × (is_used ≡ false)
+-- a block without damage
+usable_block : (s : Super) (is_used : Bool) (b : ℕ) → block_damage s is_used b ≡ None → (is_reserved s.block b ≡ false) × (b < s.blocks) × (is_used ≡ false)
 usable_block s is_used b e =
-    elim (cases_Bool (is_reserved s.block b)) [
-      | inl reserved ↦ let no = ap (λ t. cond t (Some (ReservedBlock b)) (cond (leb s.blocks b) (Some (OutsideFile b)) (cond is_used (Some (BlockTwice b)) None))) reserved in absurd cc
-      | inr free ↦
-          elim (cases_Bool (leb s.blocks b)) [
-            | inl outside ↦
-                let no = ap (λ t. cond t (Some (ReservedBlock b)) (cond (leb s.blocks b) (Some (OutsideFile b)) (cond is_used (Some (BlockTwice b)) None))) free
-                ∙ ap (λ t. cond t (Some (OutsideFile b)) (cond is_used (Some (BlockTwice b)) None)) outside in absurd cc
-            | inr inside ↦
-                elim (cases_Bool is_used) [
-                  | inl twice ↦
-                      let no = ap (λ t. cond t (Some (ReservedBlock b)) (cond (leb s.blocks b) (Some (OutsideFile b)) (cond is_used (Some (BlockTwice b)) None))) free
-                      ∙ ap (λ t. cond t (Some (OutsideFile b)) (cond is_used (Some (BlockTwice b)) None)) inside ∙ ap (λ t. cond t (Some (BlockTwice b)) None) twice in absurd cc
-                  | inr once ↦ (free, leb-false s.blocks b inside, once)
-                ]
-          ]
-    ]
+    let t3 : List (Bool × DirDamage) = (not is_used, BlockTwice b) ∷ [] in
+    let t2 : List (Bool × DirDamage) = (ltb b s.blocks, OutsideFile b) ∷ t3 in
+    let free = was_passed (not (is_reserved s.block b)) (ReservedBlock b) t2 e in
+    let inside = was_passed (ltb b s.blocks) (OutsideFile b) t3 free.1 in
+    let once = was_passed (not is_used) (BlockTwice b) [] inside.1 in
+    (not-true (is_reserved s.block b) free.0, ltb-true b s.blocks inside.0, not-true is_used once.0)
 
-block_without_fault : (s : Super) (is_used : Bool) (b : ℕ) → is_reserved s.block b ≡ false → b < s.blocks → is_used ≡ false → block_fault s is_used b ≡ None
-block_without_fault s is_used b free inside once =
-    ap (λ t. cond t (Some (ReservedBlock b)) (cond (leb s.blocks b) (Some (OutsideFile b)) (cond is_used (Some (BlockTwice b)) None))) free
-    ∙ ap (λ t. cond t (Some (OutsideFile b)) (cond is_used (Some (BlockTwice b)) None)) (lt-leb s.blocks b inside) ∙ ap (λ t. cond t (Some (BlockTwice b)) None) once
+block_without_damage : (s : Super) (is_used : Bool) (b : ℕ) → is_reserved s.block b ≡ false → b < s.blocks → is_used ≡ false → block_damage s is_used b ≡ None
+block_without_damage s is_used b free inside once =
+    let t3 : List (Bool × DirDamage) = (not is_used, BlockTwice b) ∷ [] in
+    let t2 : List (Bool × DirDamage) = (ltb b s.blocks, OutsideFile b) ∷ t3 in
+    is_passed (not (is_reserved s.block b)) (ReservedBlock b) t2 (not_from_false (is_reserved s.block b) free)
+    (is_passed (ltb b s.blocks) (OutsideFile b) t3 (lt-ltb b s.blocks inside) (is_passed (not is_used) (BlockTwice b) [] (not_from_false is_used once) refl))
 
 pub usable_from_none : (s : Super) (earlier blocks : List ℕ) → first_bad s earlier blocks ≡ None → AreUsable s earlier blocks
 unfolding first_bad
 usable_from_none s earlier [] e = tt
 usable_from_none s earlier (b ∷ blocks) e =
     let is_used = list_any (λ x. eqb x b) earlier in
-    let parts = no_fault (block_fault s is_used b) (first_bad s (earlier ++ b ∷ []) blocks) e in
+    let parts = no_damage (block_damage s is_used b) (first_bad s (earlier ++ b ∷ []) blocks) e in
     let block = usable_block s is_used b parts.0 in
     (λ h. both_ways (is_reserved s.block b) block.0 h, block.1, block.2, usable_from_none s (earlier ++ b ∷ []) blocks parts.1)
 
@@ -296,8 +287,8 @@ unfolding first_bad
 none_from_usable s earlier [] u = refl
 none_from_usable s earlier (b ∷ blocks) u =
     let is_used = list_any (λ x. eqb x b) earlier in
-    let none = block_without_fault s is_used b (false_from_ne_true (is_reserved s.block b) u.0) u.1 u.2 in
-    ap (λ f. or_fault f (first_bad s (earlier ++ b ∷ []) blocks)) none ∙ none_from_usable s (earlier ++ b ∷ []) blocks u.3
+    let none = block_without_damage s is_used b (false_from_ne_true (is_reserved s.block b) u.0) u.1 u.2 in
+    ap (λ f. option_or f (first_bad s (earlier ++ b ∷ []) blocks)) none ∙ none_from_usable s (earlier ++ b ∷ []) blocks u.3
 
 usable_are_words : (s : Super) (earlier blocks : List ℕ) → s.blocks < 2 ^ 32 → AreUsable s earlier blocks → AllByRecursion IsWord blocks
 usable_are_words s earlier [] fit u = tt
@@ -305,24 +296,20 @@ usable_are_words s earlier (b ∷ blocks) fit u = (omega (arith, fit, u.1), usab
 
 -- ---- the two laws
 
-ok_unless : {A : Type 0} (found : Option DirFault) (x y : A) → unless found x ≡ Ok y → (found ≡ None) × (x ≡ y)
-ok_unless None x y e = (refl, ok_is x y e)
-ok_unless (Some fault) x y e = absurd cc
-
 -- what is read
 pub record IsRead (s : Super) (earlier bytes : List ℕ) (streams : List (Option StreamBlocks)) : Type 0 where
   pub directory : IsDirectory s earlier streams
   pub spelled : Spells s.block bytes streams
 
-read_is : (s : Super) (earlier bytes : List ℕ) (streams : List (Option StreamBlocks)) → AreBytes bytes → reading s earlier bytes ≡ Ok streams → IsRead s earlier bytes streams
+pub read_is : (s : Super) (earlier bytes : List ℕ) (streams : List (Option StreamBlocks)) → AreBytes bytes → reading s earlier bytes ≡ Ok streams → IsRead s earlier bytes streams
 unfolding reading
 read_is s earlier bytes streams fits e =
     let skip = λ (sizes : List ℕ). skipped_count s.block sizes in
-    let a = bind_ok (parts_of s.block bytes) (λ parts. let kept = drop (skip parts.0) parts.1 in unless (first_bad s earlier kept) (directory_of s.block parts.0 kept)) streams e in
+    let a = bound_ok (parts_of s.block bytes) (λ parts. let kept = drop (skip parts.0) parts.1 in unless (first_bad s earlier kept) (directory_of s.block parts.0 kept)) streams e in
     let sizes = a.0.0 in
     let numbers = a.0.1 in
     let kept = drop (skip sizes) numbers in
-    let u = ok_unless (first_bad s earlier kept) (directory_of s.block sizes kept) streams a.2 in
+    let u = unless_ok (first_bad s earlier kept) (directory_of s.block sizes kept) streams a.2 in
     let p = parts_are s.block bytes a.0 a.1 in
     let all = subst (AllByRecursion IsWord) p.words (words_in-are_words bytes fits) in
     let sum = skipped_and_others s.block sizes in
@@ -347,7 +334,7 @@ read_is s earlier bytes streams fits e =
     })
 
 -- an answer that read streams
-pub on_read : (s : Super) (earlier bytes : List ℕ) (r : Result (List (Option StreamBlocks)) DirFault) (P : List (Option StreamBlocks) → Type 0) → AreBytes bytes → Gives (λ d. d) r (reading s earlier bytes)
+pub on_read : (s : Super) (earlier bytes : List ℕ) (r : Result (List (Option StreamBlocks)) DirFault) (P : List (Option StreamBlocks) → Type 0) → AreBytes bytes → Tells directory_damage (λ d. d) r (reading s earlier bytes)
     → ((streams : List (Option StreamBlocks)) → IsRead s earlier bytes streams → P streams) → IfOk r P
 on_read s earlier bytes (Ok streams) P fits g gives = gives streams (read_is s earlier bytes streams fits g)
 on_read s earlier bytes (Err fault) P fits g gives = tt

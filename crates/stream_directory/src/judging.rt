@@ -4,9 +4,10 @@ ghost use Rattle.std.specs.Prelude.{◌≡◌, ◌≤◌, ◌<◌, ℕ, ◌+◌,
 ghost use Rattle.std.specs.List.{list_any};
 ghost use Rattle.msf_blocks.specs.Bits.{has_bit};
 ghost use Rattle.msf_blocks.specs.Blocks.{IsBlockSize};
-ghost use Rattle.stream_directory.specs.Reading.{Finds, block_fault, first_bad};
+ghost use Rattle.msf_blocks.specs.Judging.{Tells, unless};
+ghost use Rattle.stream_directory.specs.Reading.{block_damage, directory_damage, first_bad};
 
-use crate::fault::DirFault;
+use crate::fault::{DirDamage, DirFault};
 use msf_blocks::{Super, has_bit, reserved, set_bit};
 use std::alloc::{AllocError, Global};
 
@@ -14,30 +15,31 @@ use std::alloc::{AllocError, Global};
 pub fn judge(alloc: Global, s: &Super, earlier: &[u32], blocks: &[u32]) -> Result<(), DirFault>
     requires size { IsBlockSize s.now.block }
     requires inside { All (λ b. b < s.now.blocks) earlier.now }
-    ensures { Finds result (first_bad s.now earlier.now blocks.now) }
+    ensures { Tells directory_damage (λ ok. ok) result
+        (unless (first_bad s.now earlier.now blocks.now) tt) }
 {
     let mut used = bits_of(alloc, s.blocks, earlier)?;
     for b in blocks {
-        if let Some(fault) = block_fault(s, &used, *b) {
-            return Err(fault);
+        if let Some(damage) = block_damage(s, &used, *b) {
+            return Err(DirFault::Damage(damage));
         }
         set_bit(&mut used, *b);
     }
     Ok(())
 }
 
-// The fault of a block.
-fn block_fault(s: &Super, used: &[u8], b: u32) -> Option<DirFault>
+// The damage of a block.
+fn block_damage(s: &Super, used: &[u8], b: u32) -> Option<DirDamage>
     requires size { IsBlockSize s.now.block }
     requires used { length used.now ≡ (s.now.blocks + 7) / 8 }
-    ensures { result ≡ block_fault s.now (has_bit used.now b) b }
+    ensures { result ≡ block_damage s.now (has_bit used.now b) b }
 {
     if reserved(s.block, b) {
-        Some(DirFault::ReservedBlock { block: b })
+        Some(DirDamage::ReservedBlock { block: b })
     } else if b >= s.blocks {
-        Some(DirFault::OutsideFile { block: b })
+        Some(DirDamage::OutsideFile { block: b })
     } else if has_bit(used, b) {
-        Some(DirFault::BlockTwice { block: b })
+        Some(DirDamage::BlockTwice { block: b })
     } else {
         None
     }
@@ -47,7 +49,8 @@ fn block_fault(s: &Super, used: &[u8], b: u32) -> Option<DirFault>
 fn bits_of(alloc: Global, blocks: u32, among: &[u32]) -> Result<Vec<u8>, AllocError>
     requires { All (λ b. b < blocks) among.now }
     ensures len { IfOk result (λ bits. vec_len bits ≡ (blocks + 7) / 8) }
-    ensures bits { IfOk result (λ bits. (k : ℕ) → has_bit bits.items k ≡ list_any (λ b. b == k) among.now) }
+    ensures bits { IfOk result (λ bits. (k : ℕ)
+        → has_bit bits.items k ≡ list_any (λ b. b == k) among.now) }
 {
     let mut bits = vec![in alloc; 0; blocks.div_ceil(8) as usize]?;
     for b in among {

@@ -3,11 +3,12 @@
 ghost use Rattle.std.specs.Prelude.{◌≡◌, ◌≤◌, ◌<◌, ◌+◌, ◌*◌, ◌/◌, ◌^◌, length, drop, IfOk};
 ghost use Rattle.std.specs.List.{sum_by};
 ghost use Rattle.msf_blocks.specs.Blocks.{IsBlockSize};
+ghost use Rattle.msf_blocks.specs.Judging.{Tells};
 ghost use Rattle.stream_directory.specs.Directory.{block_count, skipped_count};
-ghost use Rattle.stream_directory.specs.Reading.{Gives, fields_at, parts_of, words_in};
+ghost use Rattle.stream_directory.specs.Reading.{fields_at, parts_of, words_in};
 
 use crate::directory::ABSENT_SIZE;
-use crate::fault::DirFault;
+use crate::fault::DirDamage;
 use byteorder::{ByteOrder, LittleEndian};
 use msf_blocks::blocks_of_size;
 use std::alloc::{AllocError, Global};
@@ -52,12 +53,12 @@ pub fn parts_of<'a>(
     words: &'a [u32],
     bytes: &[u8],
     block_size: u32,
-) -> Result<(&'a [u32], &'a [u32]), DirFault>
+) -> Result<(&'a [u32], &'a [u32]), DirDamage>
     requires size { IsBlockSize block_size }
     requires words { words.now ≡ words_in bytes.now }
     ensures few { IfOk result (λ x. length x.0.now < 2 ^ 32) }
     ensures count { IfOk result (λ x. length x.1.now ≡ sum_by (block_count block_size) x.0.now) }
-    ensures exact { Gives (λ x. (x.0.now, x.1.now)) result (parts_of block_size bytes.now) }
+    ensures exact { Tells Some (λ x. (x.0.now, x.1.now)) result (parts_of block_size bytes.now) }
 {
     let (count, rest) = fields_at(words, 0, 1)?;
     let (sizes, rest) = fields_at(rest, 4, u64::from(count[0]))?;
@@ -65,19 +66,19 @@ pub fn parts_of<'a>(
     let (numbers, _) = fields_at(rest, behind, sum_of_counts(block_size, sizes))?;
     let end = behind + 4 * numbers.len() as u64;
     if end != bytes.len() as u64 {
-        return Err(DirFault::Extra { at: end });
+        return Err(DirDamage::Extra { at: end });
     }
     Ok((sizes, numbers))
 }
 
 // So many fields from a place of the text on, and the words behind them.
-fn fields_at(words: &[u32], at: u64, n: u64) -> Result<(&[u32], &[u32]), DirFault>
+fn fields_at(words: &[u32], at: u64, n: u64) -> Result<(&[u32], &[u32]), DirDamage>
     requires { at + 4 * length words.now < 2 ^ 64 }
     ensures count { IfOk result (λ x. length x.0.now ≡ n) }
-    ensures exact { Gives (λ x. (x.0.now, x.1.now)) result (fields_at at n words.now) }
+    ensures exact { Tells Some (λ x. (x.0.now, x.1.now)) result (fields_at at n words.now) }
 {
     if n > words.len() as u64 {
-        return Err(DirFault::Short {
+        return Err(DirDamage::Short {
             at: at + 4 * words.len() as u64,
         });
     }

@@ -9,11 +9,11 @@ mod reading;
 mod writing;
 
 pub use crate::directory::{ABSENT_SIZE, Directory, Stream};
-pub use crate::fault::DirFault;
+pub use crate::fault::{DirDamage, DirFault};
 pub use crate::judging::judge;
 pub use crate::layout::words_of;
 pub use crate::reading::{read_directory, read_directory_behind};
-pub use crate::writing::write_directory;
+pub use crate::writing::{put_words, write_directory};
 
 #[cfg(test)]
 mod tests;

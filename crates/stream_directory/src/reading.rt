@@ -1,9 +1,10 @@
 ghost use Rattle.std.specs.Prelude.{◌≡◌, ◌≤◌, ◌<◌, ◌++◌, [], List, Option, Ok, All, length, drop, IfOk, OnOk};
 ghost use Rattle.std.specs.List.{sum_by};
 ghost use Rattle.msf_blocks.specs.Blocks.{IsBlockSize};
+ghost use Rattle.msf_blocks.specs.Judging.{Tells};
 ghost use Rattle.msf_blocks.specs.Superblock.{IsSuper};
 ghost use Rattle.stream_directory.specs.Directory.{IsDirectory, Spells, StreamBlocks, block_count};
-ghost use Rattle.stream_directory.specs.Reading.{Gives, directory_of, reading, stream_of, streams_of};
+ghost use Rattle.stream_directory.specs.Reading.{directory_damage, directory_of, reading, stream_of, streams_of};
 
 use crate::directory::{ABSENT_SIZE, Directory, Stream};
 use crate::fault::DirFault;
@@ -20,9 +21,11 @@ pub fn read_directory(alloc: Global, bytes: &[u8], s: &Super) -> Result<Director
     ensures found { IfOk result (IsDirectory s.now []) }
     ensures spelled { IfOk result (Spells s.now.block bytes.now) }
     // What is spelled so is read, unless memory runs out.
-    ensures only { (streams : List (Option StreamBlocks)) → IsDirectory s.now [] streams → Spells s.now.block bytes.now streams → Gives (λ d. d) result (Ok streams) }
-    // Which fault it is.
-    ensures exact { Gives (λ d. d) result (reading s.now [] bytes.now) }
+    ensures only { (streams : List (Option StreamBlocks)) → IsDirectory s.now [] streams
+        → Spells s.now.block bytes.now streams
+        → Tells directory_damage (λ d. d) result (Ok streams) }
+    // Which damage it is.
+    ensures exact { Tells directory_damage (λ d. d) result (reading s.now [] bytes.now) }
 {
     read_directory_behind(alloc, bytes, s, &[])
 }
@@ -39,8 +42,10 @@ pub fn read_directory_behind(
     requires inside { All (λ b. b < s.now.blocks) earlier.now }
     ensures found { IfOk result (IsDirectory s.now earlier.now) }
     ensures spelled { IfOk result (Spells s.now.block bytes.now) }
-    ensures only { (streams : List (Option StreamBlocks)) → IsDirectory s.now earlier.now streams → Spells s.now.block bytes.now streams → Gives (λ d. d) result (Ok streams) }
-    ensures exact { Gives (λ d. d) result (reading s.now earlier.now bytes.now) }
+    ensures only { (streams : List (Option StreamBlocks)) → IsDirectory s.now earlier.now streams
+        → Spells s.now.block bytes.now streams
+        → Tells directory_damage (λ d. d) result (Ok streams) }
+    ensures exact { Tells directory_damage (λ d. d) result (reading s.now earlier.now bytes.now) }
 {
     read_parts(alloc, bytes, s, earlier)
 }
@@ -55,7 +60,7 @@ fn read_parts(
 ) -> Result<Directory, DirFault>
     requires superblock { IsSuper s.now }
     requires inside { All (λ b. b < s.now.blocks) earlier.now }
-    ensures { Gives (λ d. d) result (reading s.now earlier.now bytes.now) }
+    ensures { Tells directory_damage (λ d. d) result (reading s.now earlier.now bytes.now) }
 {
     let words = words_of(alloc, bytes)?;
     let (sizes, numbers) = parts_of(&words, bytes, s.block)?;
@@ -74,7 +79,8 @@ fn directory_of(
 ) -> Result<Vec<Option<Stream>>, AllocError>
     requires size { IsBlockSize block_size }
     requires enough { sum_by (block_count block_size) (drop 1 sizes.now) ≤ length numbers.now }
-    ensures { IfOk result (λ streams. streams.items ≡ directory_of block_size sizes.now numbers.now) }
+    ensures { IfOk result (λ streams. streams.items
+        ≡ directory_of block_size sizes.now numbers.now) }
 {
     let mut streams = Vec::with_capacity(alloc, sizes.len())?;
     if let Some((first, others)) = sizes.split_first() {
@@ -104,7 +110,8 @@ fn push_streams(
 ) -> Result<(), AllocError>
     requires size { IsBlockSize block_size }
     requires enough { sum_by (block_count block_size) sizes.now ≤ length numbers.now }
-    ensures { OnOk result (streams.new.items ≡ streams.old.items ++ streams_of block_size sizes.now numbers.now) }
+    ensures { OnOk result (streams.new.items ≡ streams.old.items
+        ++ streams_of block_size sizes.now numbers.now) }
 {
     let mut rest = numbers;
     for size in sizes {

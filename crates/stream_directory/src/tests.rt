@@ -68,10 +68,10 @@ fn new_file(rt: HostRuntime) -> Result<(), Fail> {
 
 #[test]
 fn first_faults(rt: HostRuntime) -> Result<(), Fail> {
-    use DirFault::*;
+    use DirDamage::*;
     let s = header()?;
-    // The place of a number, its new value, and the first fault then.
-    let cases: [(usize, [u8; 4], DirFault); 11] = [
+    // The place of a number, its new value, and the first damage then.
+    let cases: [(usize, [u8; 4], DirDamage); 11] = [
         (40, [3, 0, 0, 0], BlockTwice { block: 3 }),
         (0, [9, 0, 0, 0], Short { at: 52 }),
         (0, [0xff, 0xff, 0xff, 0xff], Short { at: 52 }),
@@ -84,11 +84,15 @@ fn first_faults(rt: HostRuntime) -> Result<(), Fail> {
         (36, [1, 0x10, 0, 0], ReservedBlock { block: 4097 }),
         (48, [0, 0x10, 0, 0], OutsideFile { block: 4096 }),
     ];
-    for (place, number, fault) in cases {
+    for (place, number, damage) in cases {
         let mut bytes = NEW_FILE;
         assert!(rt; place <= 48);
         bytes[place..place + 4].copy_from_slice(&number);
-        assert_eq!(rt; fault_of(rt.alloc(), &bytes, &s), Some(fault), "at {place}");
+        assert_eq!(rt;
+            fault_of(rt.alloc(), &bytes, &s),
+            Some(DirFault::Damage(damage)),
+            "at {place}"
+        );
     }
     Ok(())
 }
@@ -101,7 +105,7 @@ fn cut_short(rt: HostRuntime) -> Result<(), Fail> {
         let cut = NEW_FILE.as_slice().split_at(len).0;
         assert_eq!(rt;
             fault_of(rt.alloc(), cut, &s),
-            Some(DirFault::Short { at }),
+            Some(DirFault::Damage(DirDamage::Short { at })),
             "{len} bytes"
         );
     }
@@ -136,7 +140,7 @@ fn used_before(rt: HostRuntime) -> Result<(), Fail> {
     assert!(rt; s.blocks > 8);
     match read_directory_behind(rt.alloc(), &NEW_FILE, &s, &[8, 4]) {
         Ok(_) => assert!(rt; false),
-        Err(fault) => assert_eq!(rt; fault, DirFault::BlockTwice { block: 4 }),
+        Err(fault) => assert_eq!(rt; fault, DirFault::Damage(DirDamage::BlockTwice { block: 4 })),
     }
     Ok(())
 }

@@ -9,9 +9,11 @@ use std::alloc::{AllocError, Global};
 /// The text of a directory: how many streams there are, their sizes, and the blocks of each in order.
 pub fn write_directory(alloc: Global, d: &Directory) -> Result<Vec<u8>, AllocError>
     ensures text { IfOk result (λ text. text.items ≡ directory_text d.now) }
-    ensures len { IfOk result (λ text. length text.items ≡ 4 + 4 * length d.now + 4 * length (flat_map blocks_in d.now)) }
+    ensures len { IfOk result (λ text. length text.items
+        ≡ 4 + 4 * length d.now + 4 * length (flat_map blocks_in d.now)) }
     // The text spells the directory, where stream 0 has no blocks.
-    ensures spells { (block_size : ℕ) → skipped_count block_size (map size_field d.now) ≡ 0 → IfOk result (λ text. Spells block_size text.items d.now) }
+    ensures spells { (block_size : ℕ) → skipped_count block_size (map size_field d.now) ≡ 0
+        → IfOk result (λ text. Spells block_size text.items d.now) }
 {
     put_directory(alloc, d)
 }
@@ -28,7 +30,8 @@ fn put_directory(alloc: Global, d: &Directory) -> Result<Vec<u8>, AllocError>
 }
 
 fn put_sizes(text: &mut Vec<u8>, streams: &[Option<Stream>]) -> Result<(), AllocError>
-    ensures { OnOk result (text.new.items ≡ text.old.items ++ flat_map word (map size_field streams.now)) }
+    ensures { OnOk result (text.new.items ≡ text.old.items
+        ++ flat_map word (map size_field streams.now)) }
 {
     for stream in streams {
         put_word(text, size_field(stream))?;
@@ -37,7 +40,8 @@ fn put_sizes(text: &mut Vec<u8>, streams: &[Option<Stream>]) -> Result<(), Alloc
 }
 
 fn put_blocks(text: &mut Vec<u8>, streams: &[Option<Stream>]) -> Result<(), AllocError>
-    ensures { OnOk result (text.new.items ≡ text.old.items ++ flat_map word (flat_map blocks_in streams.now)) }
+    ensures { OnOk result (text.new.items ≡ text.old.items
+        ++ flat_map word (flat_map blocks_in streams.now)) }
 {
     for stream in streams {
         if let Some(s) = stream {
@@ -47,7 +51,8 @@ fn put_blocks(text: &mut Vec<u8>, streams: &[Option<Stream>]) -> Result<(), Allo
     Ok(())
 }
 
-fn put_words(text: &mut Vec<u8>, words: &[u32]) -> Result<(), AllocError>
+/// Puts numbers behind bytes, each as four bytes with the lowest first.
+pub fn put_words(text: &mut Vec<u8>, words: &[u32]) -> Result<(), AllocError>
     ensures { OnOk result (text.new.items ≡ text.old.items ++ flat_map word words.now) }
 {
     for n in words {

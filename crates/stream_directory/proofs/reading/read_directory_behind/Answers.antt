@@ -1,5 +1,6 @@
 use Rattle.std.proofs.Common.{subst, arith}
-use Rattle.stream_directory.specs.Reading.{Gives}
+use Rattle.msf_blocks.specs.Judging.{Tells}
+use Rattle.stream_directory.specs.Reading.{directory_damage}
 use Rattle.stream_directory.proofs.Streams.{on_read, reading_again}
 use Rattle.stream_directory.proofs.reading.read_directory_behind.Goals as goal
 
@@ -13,4 +14,4 @@ returns-clause-spelled c =
 
 pub returns-clause-only : goal.returns-clause-only
 returns-clause-only c = λ streams is spelled.
-    subst (Gives (λ d. d) c.read_parts.result) (reading_again c.args.s.now c.args.earlier.now c.args.bytes.now streams c.requires.superblock.blocks_fit is spelled) c.read_parts.ensures
+    subst (Tells directory_damage (λ d. d) c.read_parts.result) (reading_again c.args.s.now c.args.earlier.now c.args.bytes.now streams c.requires.superblock.blocks_fit is spelled) c.read_parts.ensures

@@ -1,8 +1,9 @@
-use Rattle.std.proofs.Common.{◌<◌, All, ap, sym, subst, ◌∙◌, length, get_or, arith}
+use Rattle.std.proofs.Common.{◌<◌, All, rules, ap, sym, subst, ◌∙◌, length, get_or, arith}
 use Rattle.std.proofs.lemmas.Bool.{ltb-true}
 use Rattle.stream_directory.specs.Directory.{blocks_in}
 use Rattle.msf_image.proofs.Joining.{block_inside, inside_piece}
 use Rattle.msf_image.proofs.Listed.{usable_inside}
+use Rattle.msf_image.proofs.Relating.{content_read}
 use Rattle.msf_image.proofs.image.Image.read_stream.Goals as goal
 
 pub read_blocks-requires-clause-inside : goal.read_blocks-requires-clause-inside
@@ -15,3 +16,17 @@ read_blocks-requires-clause-inside g c = λ tells k d lt.
     let kept = inside_piece blocks_in c.args.self.now.directory c.args.stream x (λ b. b < s.blocks) inside (lookup.1 ∙ ap (λ xs. get_or xs c.args.stream x) c.streams.ensures) all in
     let blocks = subst (All (λ b. b < s.blocks)) (ap blocks_in c.in-Some-Some.field-0-is ∙ sym c.blocks-2.ensures) kept in
     block_inside _ s.blocks s.block _ (blocks k d lt) (c.requires.inside tells)
+
+pub returns-in_default-clause-content : goal.returns-in_default-clause-content
+returns-in_default-clause-content g c = search rules
+
+pub returns-in_default-clause-stream : goal.returns-in_default-clause-stream
+returns-in_default-clause-stream g c = λ limit streams tells some r.
+    returns-in_default-clause-content g c tells ∙ content_read _ limit c.args.self.now streams c.args.stream some r
+
+pub returns-clause-content : goal.returns-clause-content
+returns-clause-content g c = search rules
+
+pub returns-clause-stream : goal.returns-clause-stream
+returns-clause-stream g c = λ limit streams tells some r.
+    returns-clause-content g c tells ∙ content_read _ limit c.args.self.now streams c.args.stream some r
