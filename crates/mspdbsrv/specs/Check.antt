@@ -9,7 +9,10 @@ use Rattle.srv_edge.specs.Stream.{WentInPart}
 use Rattle.msf_image.specs.declared.fault.OpenFault.{OpenFault}
 use Rattle.msf_image.specs.declared.fault.OpenFault.TheVariants as fault
 use Rattle.msf_image.specs.declared.image.Image.{Image}
-use Rattle.msf_image.specs.Reads.{Tells, read_file}
+use Rattle.msf_blocks.specs.Judging.{Tells}
+use Rattle.msf_image.specs.declared.fault.Damage.{Damage}
+use Rattle.msf_image.specs.Faults.{damage_in}
+use Rattle.msf_image.specs.Reads.{read_file}
 use Rattle.pdb_dump.specs.Container.{container_text, damage_text}
 use Rattle.mspdbsrv.specs.declared.status.Status.{Status}
 use Rattle.mspdbsrv.specs.declared.status.Status.TheVariants as status
@@ -28,6 +31,11 @@ status_of_read (Err (fault.Damage kind place)) = status.Damage kind place
 status_of_read (Err fault.DiskFault) = status.DiskFault
 status_of_read (Err fault.OutOfMemory) = status.OutOfMemory
 
+-- the status of what the file reads as
+abbrev pub status_of_file : Result Image Damage → Status
+status_of_file (Ok image) = status.Ok
+status_of_file (Err damage) = status.Damage damage.kind damage.place
+
 -- A text went to the sink whole, and the status is this; or in part, with a write fault.
 abbrev pub Prints : {K : Type 0} → sink.Ghosts K → List ℕ → Status → K → K → Status → Type 0
 Prints k text status_is to to' answer =
@@ -36,11 +44,11 @@ Prints k text status_is to to' answer =
 -- A file was read, and the text of what was read was printed.
 pub record IsCheck {D K : Type 0} (d : device.Ghosts D) (k : sink.Ghosts K) (file : D) (to to' : K) (answer : Status) : Type 0 where
   pub read : Result Image OpenFault
-  pub told : IsTrue d.tells → Tells (λ image. image) read (read_file (d.seen file) MOST_BLOCKS)
+  pub told : IsTrue d.tells → Tells damage_in (λ image. image) read (read_file (d.seen file) MOST_BLOCKS)
   pub printed : Prints k (text_of_read read) (status_of_read read) to to' answer
 
 -- Where neither the device nor the sink failed, the file alone says the status, but for want of memory.
 abbrev pub CompletesCheck : {D K : Type 0} → device.Ghosts D → sink.Ghosts K → D → D → K → K → Status → Type 0
 CompletesCheck d k file file' to to' answer =
     IsTrue d.tells → ¬ Rose (d.fault_count file) (d.fault_count file') → ¬ Rose (k.faults to) (k.faults to')
-    → (answer ≡ status.OutOfMemory) ⊎ (answer ≡ status_of_read (read_file (d.seen file) MOST_BLOCKS))
+    → (answer ≡ status.OutOfMemory) ⊎ (answer ≡ status_of_file (read_file (d.seen file) MOST_BLOCKS))
