@@ -8,3 +8,4 @@ mod Padded
 mod Replaying
 pub mod Settled
 pub mod Exchanging
+mod Existing

@@ -1,4 +1,4 @@
-ghost use Rattle.std.specs.Prelude.{◌≡◌, ℕ, List};
+ghost use Rattle.std.specs.Prelude.{◌≡◌, ◌<◌, ℕ, List, slice_index};
 ghost use Rattle.srv_edge.specs.Frames.{AreFrames, Frame, Tail};
 ghost use Rattle.srv_edge.specs.Replay.{IsImage, KeepsSettled, Step};
 
@@ -15,4 +15,10 @@ pub fn one_reading()
         → AreFrames bytes gs u → fs ≡ gs }
     ensures tail { (bytes : List ℕ) (fs gs : List Frame) (t u : Tail) → AreFrames bytes fs t
         → AreFrames bytes gs u → t ≡ u }
+{}
+
+/// A law: any bytes are read as frames in some way.
+pub fn some_reading()
+    ensures { (bytes : List ℕ) → ((i : ℕ) → slice_index bytes i < 256)
+        → (frames : List Frame) × (tail : Tail) × AreFrames bytes frames tail }
 {}

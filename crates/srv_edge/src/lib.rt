@@ -36,7 +36,7 @@ pub use crate::failed::{Failed, Limits, Refusal, SessionEnd};
 pub use crate::faults::FaultCount;
 pub use crate::file::FileDevice;
 pub use crate::give::give_all;
-pub use crate::laws::{images_keep_settled, one_reading};
+pub use crate::laws::{images_keep_settled, one_reading, some_reading};
 pub use crate::link::Link;
 pub use crate::memory::{MemLink, MemSink, MemSource};
 pub use crate::memory_device::MemDevice;

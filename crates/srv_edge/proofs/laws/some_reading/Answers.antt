@@ -1,0 +1,8 @@
+use Rattle.std.proofs.Common.{length, arith}
+use Rattle.srv_edge.proofs.Existing.{every_reading}
+use Rattle.srv_edge.proofs.laws.some_reading.Goals as goal
+
+pub returns : goal.returns
+returns c = λ bytes small.
+    let reading = every_reading (length bytes) bytes (omega arith) small in
+    (reading.frames, reading.tail, reading.are)
