@@ -12,8 +12,8 @@ pub const PAGE_WORDS: usize = 1024;
 // How many pages there may be, so that their words are fewer than 2^32.
 const MOST_PAGES: usize = u32::MAX as usize / PAGE_WORDS;
 
-/// A journal of words, in pages: growing moves no word that is there. Contracts see its words and its spare:
-/// for how many more there is room. Both together are fewer than 2^32.
+/// A journal of words, in pages: growing moves no word that is there. Contracts see its words and
+/// its spare: for how many more there is room. Both together are fewer than 2^32.
 #[derive(Drop)]
 pub struct Journal {
     alloc: Global,
@@ -50,8 +50,8 @@ impl Journal {
         }
     }
 
-    /// Makes room for so many words, page by page. Where memory is wanted, the pages that it got stay. There is none
-    /// for a page that would bring the words and the room for more to 2^32.
+    /// Makes room for so many words, page by page. Where memory is wanted, the pages that it got
+    /// stay. There is none for a page that would bring the words and the room for more to 2^32.
     pub fn reserve(&mut self, n: u32) -> Result<(), AllocError>
         ensures words { self.new.words ≡ self.old.words }
         ensures spare { self.old.spare ≤ self.new.spare }

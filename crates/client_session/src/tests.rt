@@ -41,8 +41,9 @@ fn packed(alloc: Global, text: &str) -> Result<String, Fail> {
     Ok(all)
 }
 
-// How a link is served over empty tables up to a limit, and then to its end over the same tables; and all replies. The
-// source gives a byte and at most so many more in each call, and the sink fails at these calls.
+// How a link is served over empty tables up to a limit, and then to its end over the same tables;
+// and all replies. The source gives a byte and at most so many more in each call, and the sink
+// fails at these calls.
 fn served_twice(
     alloc: Global,
     keys: RandomState,
@@ -62,8 +63,9 @@ fn served_twice(
     Ok((first, second, hex::encode(alloc, link.sink.taken())?))
 }
 
-// A limit of one frame's length ends behind its reply, and a Bye within the limit comes first. What is behind an end is
-// not read. A reply goes before more is read, and a call counts whose reply cannot be sent.
+// A limit of one frame's length ends behind its reply, and a Bye within the limit comes first. What
+// is behind an end is not read. A reply goes before more is read, and a call counts whose reply
+// cannot be sent.
 #[test]
 fn ends_of_a_kept_link(rt: HostRuntime) -> Result<(), Fail> {
     let keys = RandomState::new(&rt)?;
@@ -119,8 +121,8 @@ fn talk_within(
     Ok(hex::encode(alloc, link.sink.taken())?)
 }
 
-// Each limit is met at its number and refused one past it, with the number that would be needed; what
-// is there is still found.
+// Each limit is met at its number and refused one past it, with the number that would be needed;
+// what is there is still found.
 #[test]
 fn limits_at_their_numbers(rt: HostRuntime) -> Result<(), Fail> {
     let keys = RandomState::new(&rt)?;

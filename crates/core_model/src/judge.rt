@@ -5,16 +5,16 @@ use crate::state::{ReplayState, has_start, is_end, next_state};
 use crate::verdict::Verdict;
 use srv_edge::{RecordList, Text};
 
-/// Judges whether words are those of a history that leads from the first types, items and names, as many as
-/// `start` says, to the whole lists. It takes no memory.
+/// Judges whether words are those of a history that leads from the first types, items and names, as
+/// many as `start` says, to the whole lists. It takes no memory.
 ///
-/// Of what a word cannot show it says nothing: that what was added is a name, or a leaf whose fields name records,
-/// and that there was room for it; and that a limit was met. The first commit may have any number but 0, since the
-/// words do not tell that of the file. Where there are fewer types, items or names than `start` says, the words are
-/// wrong at place 0.
+/// Of what a word cannot show it says nothing: that what was added is a name, or a leaf whose
+/// fields name records, and that there was room for it; and that a limit was met. The first commit
+/// may have any number but 0, since the words do not tell that of the file. Where there are fewer
+/// types, items or names than `start` says, the words are wrong at place 0.
 ///
-/// Each word of an add searches its list from the front, so the time grows with the number of adds times the
-/// length of their list. Every other word takes the same time, wherever it stands.
+/// Each word of an add searches its list from the front, so the time grows with the number of adds
+/// times the length of their list. Every other word takes the same time, wherever it stands.
 pub fn replay(
     types: &RecordList,
     items: &RecordList,

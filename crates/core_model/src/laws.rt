@@ -1,5 +1,6 @@
-//! The law of the world, and smaller laws that show what its words mean. docs/HISTORY.md tells them in plain
-//! words. Each is a function that does nothing: what it promises is proved of the definitions alone.
+//! The law of the world, and smaller laws that show what its words mean. docs/HISTORY.md tells them
+//! in plain words. Each is a function that does nothing: what it promises is proved of the
+//! definitions alone.
 ghost use Rattle.std.specs.Prelude.{◌≡◌, ◌≢◌, ◌⊎◌, ◌≤◌, ◌<◌, ◌^◌, ◌+◌, ◌-◌, ◌/◌, ℕ, Bool, true, false, List, [], ◌∷◌, ◌++◌, Option, Some, None, Ok};
 ghost use Rattle.turnstile.specs.declared.history.Basis.{Basis};
 ghost use Rattle.turnstile.specs.declared.history.Entry.{Entry};
@@ -26,9 +27,9 @@ ghost use Rattle.core_model.specs.Passes.{is_pass};
 ghost use Rattle.core_model.specs.Replay.{LeadsTo, counts_of, lists_of, words_of};
 ghost use Rattle.core_model.specs.World.{opened_world, step, steps};
 
-/// The law. After any events, from any file that can be opened: the history is legal; what a pass has seen is
-/// a beginning of it; the pass's own calls are those of its number there, each once and in order; and what a
-/// crash may leave is never older than the last acknowledged commit.
+/// The law. After any events, from any file that can be opened: the history is legal; what a pass
+/// has seen is a beginning of it; the pass's own calls are those of its number there, each once and
+/// in order; and what a crash may leave is never older than the last acknowledged commit.
 pub fn world()
     ensures legal { Always (λ w. IsLegal w.basis w.history) }
     ensures seen { Always (λ w. (c : ℕ) → Begins (w.views c).seen w.history) }
@@ -37,13 +38,15 @@ pub fn world()
     ensures crash { Always (λ w. (c : Cut) → MayLeave w.file c → IsAllowed w.basis w.history c) }
 {}
 
-/// What an event does. A call is answered by the tables as they stand, and its entry, if it has one, comes last in
-/// the history and among the pass's own calls. Gets and counts have one whatever they are answered. A commit that is
-/// asked for and does not begin has an entry while one is under way, and else none; its pass has then seen the
-/// history. A commit begins with the next number, onto a file that is settled or in doubt, with the tables as they
-/// stand. The death of a client changes nothing, nor does an event whose condition does not hold. While the file
-/// stays open its basis is the same, and the history is a beginning of what it is later, as is what a pass has seen.
-/// An event that is none of a pass's own changes nothing of what it has seen and of its calls.
+/// What an event does. A call is answered by the tables as they stand, and its entry, if it has
+/// one, comes last in the history and among the pass's own calls. Gets and counts have one whatever
+/// they are answered. A commit that is asked for and does not begin has an entry while one is under
+/// way, and else none; its pass has then seen the history. A commit begins with the next number,
+/// onto a file that is settled or in doubt, with the tables as they stand. The death of a client
+/// changes nothing, nor does an event whose condition does not hold. While the file stays open its
+/// basis is the same, and the history is a beginning of what it is later, as is what a pass has
+/// seen. An event that is none of a pass's own changes nothing of what it has seen and of its
+/// calls.
 pub fn events()
     ensures answered { EachCall (λ w c call.
         (step w (calls c call)).history ≡ w.history ++ entries_of w c call) }
@@ -78,13 +81,14 @@ pub fn events()
         whose event ≢ Some c → (step w event).views c ≡ w.views c) }
 {}
 
-/// What a commit does. The one under way has the tables of where it began. When its superblock is written, a crash
-/// may leave its cut, also where that write fails; what a crash may leave stays so until a sync is done; and once
-/// the commit is done, a crash leaves nothing but its cut. Blocks are written onto a settled file alone, and one in
-/// doubt is first settled on its pending cut. A commit fails by a device call that fails, and by nothing else, and
-/// stays failed until it ends. The end of one that is done is acknowledged, that of one that failed is faulted. A
-/// commit onto any file that meets no failure, and no event of others, is acknowledged and leaves the file settled
-/// on the tables as they stood.
+/// What a commit does. The one under way has the tables of where it began. When its superblock is
+/// written, a crash may leave its cut, also where that write fails; what a crash may leave stays so
+/// until a sync is done; and once the commit is done, a crash leaves nothing but its cut. Blocks
+/// are written onto a settled file alone, and one in doubt is first settled on its pending cut. A
+/// commit fails by a device call that fails, and by nothing else, and stays failed until it ends.
+/// The end of one that is done is acknowledged, that of one that failed is faulted. A commit onto
+/// any file that meets no failure, and no event of others, is acknowledged and leaves the file
+/// settled on the tables as they stood.
 pub fn commits()
     ensures begun { EachCommit (λ w k. BeganAt w.basis w.history k.cut) }
     ensures comes { EachCommit (λ w k. k.phase ≡ switching → w.crash ≡ None → (ok : Bool) →
@@ -120,10 +124,11 @@ pub fn commits()
         (steps w (smooth_commit w.file blocks c)).file ≡ settled cut) }
 {}
 
-/// What a crash and the opening after it leave. Each cut that a crash may leave is left by some crash. One that is
-/// left was allowed, and the world behind the opening is that of a file just opened, on that very cut, with the
-/// limits and the version of the names as they were: it is settled, with an empty history, which is legal. A file
-/// with no records and no names can be opened, with the limits of the program.
+/// What a crash and the opening after it leave. Each cut that a crash may leave is left by some
+/// crash. One that is left was allowed, and the world behind the opening is that of a file just
+/// opened, on that very cut, with the limits and the version of the names as they were: it is
+/// settled, with an empty history, which is legal. A file with no records and no names can be
+/// opened, with the limits of the program.
 pub fn reopening()
     ensures comes { Always (λ w. (c : Cut) → w.crash ≡ None → MayLeave w.file c →
         (which : Which) × ((step w (crashes which)).crash ≡ Some c)) }
@@ -144,9 +149,10 @@ pub fn reopening()
     }) }
 {}
 
-/// A legal history: each beginning of it is legal; an add that was answered has the answer of the one-thread
-/// table, and leaves that table's tables, as no other entry changes them; what it brought stands at its index or
-/// offset behind any entries; and adds of equal bytes to one table have one answer.
+/// A legal history: each beginning of it is legal; an add that was answered has the answer of the
+/// one-thread table, and leaves that table's tables, as no other entry changes them; what it
+/// brought stands at its index or offset behind any entries; and adds of equal bytes to one table
+/// have one answer.
 pub fn replies()
     ensures beginnings { (b : Basis) (short long : List Entry) →
         IsLegal b long → Begins short long → IsLegal b short }
@@ -165,9 +171,9 @@ pub fn replies()
         d.brought ≡ e.brought → i ≡ at) }
 {}
 
-/// What may come behind a legal history: the entry of any call that the tables behind it answer, the beginning of a
-/// commit while none is under way, and while one is, its end and a refusal that names it. Entries that are all calls
-/// keep each allowed cut.
+/// What may come behind a legal history: the entry of any call that the tables behind it answer,
+/// the beginning of a commit while none is under way, and while one is, its end and a refusal that
+/// names it. Entries that are all calls keep each allowed cut.
 pub fn grows()
     ensures by_call { EachLegal (λ b h. (c : ℕ) (call : Call) (e : Entry) →
         is_pass c ≡ true → is_call call ≡ true →
@@ -184,8 +190,8 @@ pub fn grows()
         AreCalls more → IsAllowed b h c → IsAllowed b (h ++ more) c }
 {}
 
-/// A commit that its caller has not ended: no entry behind its beginning begins or ends one, and it is the one under
-/// way.
+/// A commit that its caller has not ended: no entry behind its beginning begins or ends one, and it
+/// is the one under way.
 pub fn open_commits()
     ensures alone { EachUnended (λ b front began between n. AreCalls between) }
     ensures stays { EachUnended (λ b front began between n.
@@ -193,8 +199,8 @@ pub fn open_commits()
         ≡ Some (record { caller = caller began; number = n })) }
 {}
 
-/// How many commits a history ends as faulted: those of its parts together, one more behind such an end, and no more
-/// behind any other entry.
+/// How many commits a history ends as faulted: those of its parts together, one more behind such an
+/// end, and no more behind any other entry.
 pub fn faults()
     ensures parts { (h more : List Entry) →
         faulted_ends (h ++ more) ≡ faulted_ends h + faulted_ends more }
@@ -206,7 +212,8 @@ pub fn faults()
         faulted_ends (h ++ e ∷ []) ≡ faulted_ends h }
 {}
 
-/// Journal words: a word tells its caller and its deed, and it is the only word of that caller that tells this deed.
+/// Journal words: a word tells its caller and its deed, and it is the only word of that caller that
+/// tells this deed.
 pub fn words()
     ensures deed { (c : ℕ) (deed : Deed) → IsDeed deed → deed_of (word_of c deed) ≡ Some deed }
     ensures caller { (c : ℕ) (deed : Deed) (bytes : List ℕ) →
@@ -216,9 +223,9 @@ pub fn words()
         word ≡ word_of (word / 2 ^ 56) deed }
 {}
 
-/// Acknowledged commits of a legal history. Each began in it. Its cut is allowed until another is acknowledged; no
-/// allowed cut has a smaller number, and each holds all that the tables held where it began. So whatever a crash
-/// may leave has all that an acknowledged commit wrote.
+/// Acknowledged commits of a legal history. Each began in it. Its cut is allowed until another is
+/// acknowledged; no allowed cut has a smaller number, and each holds all that the tables held where
+/// it began. So whatever a crash may leave has all that an acknowledged commit wrote.
 pub fn acknowledged()
     ensures began { (b : Basis) (before rest : List Entry) (e : Entry) (n : ℕ) →
         IsLegal b (before ++ e ∷ rest) → deed_of e.word ≡ Some (Ended n true) →
@@ -234,8 +241,8 @@ pub fn acknowledged()
         Extends (after w.basis front) c.tables) }
 {}
 
-/// The words of a legal history lead from the lists as opened to the lists behind it. So [`replay`](crate::replay)
-/// finds them legal.
+/// The words of a legal history lead from the lists as opened to the lists behind it. So
+/// [`replay`](crate::replay) finds them legal.
 pub fn replayed()
     ensures { (b : Basis) (h : List Entry) → IsLegal b h →
         LeadsTo (counts_of b) (words_of h) (lists_of (after b h)) }

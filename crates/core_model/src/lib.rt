@@ -1,5 +1,5 @@
-//! The histories that the one-thread table makes legal, and the world of calls, commits, crashes and
-//! reopenings, with its law. No thread and no device is in it: all of it is plain data.
+//! The histories that the one-thread table makes legal, and the world of calls, commits, crashes
+//! and reopenings, with its law. No thread and no device is in it: all of it is plain data.
 #![tactic(auto)]
 
 mod commit;

@@ -7,8 +7,8 @@ use record_table::FIRST_INDEX;
 use srv_edge::{RecordList, Text};
 use table_model::{place_of, place_of_name};
 
-/// Where a replay stands: how many types, items and names are there, the last number that began, and the commit
-/// under way.
+/// Where a replay stands: how many types, items and names are there, the last number that began,
+/// and the commit under way.
 #[derive(Clone, Copy)]
 pub(crate) struct ReplayState {
     pub(crate) types: u32,

@@ -74,7 +74,8 @@ fn words_to_one_type(rt: HostRuntime) -> Result<(), Fail> {
     Ok(())
 }
 
-// A history to two types, an item and two names, with two commits. The second of them is another caller's.
+// A history to two types, an item and two names, with two commits. The second of them is another
+// caller's.
 static GOOD: [u64; 17] = [
     0x0001000000001000,
     0x0101000000001000,
@@ -163,8 +164,9 @@ fn words_changed_at_a_place(rt: HostRuntime) -> Result<(), Fail> {
     Ok(())
 }
 
-// One word over lists that an opened file may hold, in which records, names and empty names are equal: `R` twice,
-// and the names '', 'a' and 'a' at 1, 2 and 4. From starts past these lists no word leads into them.
+// One word over lists that an opened file may hold, in which records, names and empty names are
+// equal: `R` twice, and the names '', 'a' and 'a' at 1, 2 and 4. From starts past these lists no
+// word leads into them.
 static EQUALS: [((u32, u32, u32), u64, Verdict); 12] = [
     ((2, 0, 3), 0x0001000000001000, Verdict::Legal),
     ((2, 0, 3), 0x0001000000001001, Verdict::Illegal { at: 0 }),
@@ -190,8 +192,8 @@ fn words_among_equals(rt: HostRuntime) -> Result<(), Fail> {
     Ok(())
 }
 
-// So many types that differ, four words each: caller 0 adds it, caller 1 adds an earlier one again, and caller 2
-// begins a commit and ends it. The numbers rise from 2 on.
+// So many types that differ, four words each: caller 0 adds it, caller 1 adds an earlier one again,
+// and caller 2 begins a commit and ends it. The numbers rise from 2 on.
 const ADDS: u32 = 2_500;
 
 #[test]

@@ -45,8 +45,8 @@ fn device_of(rt: &HostRuntime, plan: &Plan) -> Result<FileDevice<File>, Status> 
     }
 }
 
-// A regular file opened for reading. What is no regular file is not opened, since to open a pipe may
-// wait for a writer; it fails at every call, as does what cannot be opened.
+// A regular file opened for reading. What is no regular file is not opened, since to open a pipe
+// may wait for a writer; it fails at every call, as does what cannot be opened.
 fn open(rt: &HostRuntime, path: &str) -> Result<FileDevice<File>, Status> {
     let file = match fs::metadata(rt, path) {
         Ok(metadata) if metadata.is_file() => File::open(rt, path),

@@ -31,7 +31,9 @@ impl From<AllocError> for Usage {
 
 /// The plan that words stand for. The program's own name is not among them.
 pub fn plan_of(alloc: Global, words: &[Word]) -> Result<Plan, Usage>
-    ensures { MatchResult result (λ plan. form_of words.now ≡ Some plan) (λ why. ((why ≡ Usage.OutOfMemory) × (form_of words.now ≢ None)) ⊎ ((why ≡ Usage.NotAForm) × (form_of words.now ≡ None))) }
+    ensures { MatchResult result (λ plan. form_of words.now ≡ Some plan)
+        (λ why. ((why ≡ Usage.OutOfMemory) × (form_of words.now ≢ None))
+        ⊎ ((why ≡ Usage.NotAForm) × (form_of words.now ≡ None))) }
 {
     match words {
         [word] if word.as_str() == "session" => Ok(Plan::Session),
@@ -43,7 +45,8 @@ pub fn plan_of(alloc: Global, words: &[Word]) -> Result<Plan, Usage>
     }
 }
 
-// Whether a word can be a path. One that begins with a dash is an option, and no command has one yet.
+// Whether a word can be a path. One that begins with a dash is an option, and no command has one
+// yet.
 fn is_path(word: &str) -> bool
     ensures { result ≡ is_path word.now }
 {

@@ -15,9 +15,10 @@ use srv_edge::{Device, Sink, Source};
 use std::alloc::Global;
 use std::hash::RandomState;
 
-/// Does what the words ask for, and hands the device back. `session` makes its tables and its buffers
-/// before it reads, and does not touch the device; `check` reads the device alone, and writes nothing
-/// to it. The keys are those by which a session finds names in memory; nothing else needs them.
+/// Does what the words ask for, and hands the device back. `session` makes its tables and its
+/// buffers before it reads, and does not touch the device; `check` reads the device alone, and
+/// writes nothing to it. The keys are those by which a session finds names in memory; nothing else
+/// needs them.
 pub fn run<S: Source, K: Sink, D: Device>(
     alloc: Global,
     keys: Option<RandomState>,

@@ -89,3 +89,26 @@ pub(crate) fn status_of_end(end: SessionEnd) -> Status
         SessionEnd::TooLong => Status::TooLong,
     }
 }
+
+#[cfg(test)]
+mod tests {
+    use super::Status;
+    use msf_image::DamageKind;
+    use std::test::Fail;
+
+    // A status prints its word, and a damage its kind and its place behind it.
+    #[test]
+    fn printed_texts(rt: HostRuntime) -> Result<(), Fail> {
+        let damage = Status::Damage {
+            kind: DamageKind::MapAddr,
+            place: 52,
+        };
+        for (status, text) in [
+            (Status::ReadFault, "read fault"),
+            (damage, "damage map-addr 52"),
+        ] {
+            assert_eq!(rt; format!(in rt.alloc(); "{status}")?.as_str(), text);
+        }
+        Ok(())
+    }
+}

@@ -18,7 +18,8 @@ pub(crate) fn append(
     requires new { get_by (λ k. bytes_eq name.now k.items) offsets.old ≡ None }
     requires places { InPlace 1 offsets.old.entries }
     requires offset { offset ≡ bytes_of (names_of offsets.old.entries) }
-    ensures names { OnOk result (names_of offsets.new.entries ≡ names_of offsets.old.entries ++ name.now ∷ []) }
+    ensures names { OnOk result
+        (names_of offsets.new.entries ≡ names_of offsets.old.entries ++ name.now ∷ []) }
     ensures places { InPlace 1 offsets.new.entries }
     ensures err { OnErr result (names_of offsets.new.entries ≡ names_of offsets.old.entries) }
 {

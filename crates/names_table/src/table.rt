@@ -27,14 +27,18 @@ impl Model for NamesTable {
 
     ghost Value = { Names };
 
-    ghost view = { λ t. record { max_bytes = t.max_bytes; version = t.version; names = names_of t.offsets.entries } };
+    ghost view = { λ t. record
+        { max_bytes = t.max_bytes; version = t.version; names = names_of t.offsets.entries } };
 
-    ghost invariant = { λ t. All IsName (names_of t.offsets.entries) × InPlace 1 t.offsets.entries × (t.bytes ≡ bytes_of (names_of t.offsets.entries)) × (t.bytes ≤ t.max_bytes) × (t.max_bytes ≤ 2 ^ 28) };
+    ghost invariant = { λ t. All IsName (names_of t.offsets.entries) × InPlace 1 t.offsets.entries
+        × (t.bytes ≡ bytes_of (names_of t.offsets.entries)) × (t.bytes ≤ t.max_bytes)
+        × (t.max_bytes ≤ 2 ^ 28) };
 }
 
 impl NamesTable {
-    /// An empty table. The version is that of the hashes with which the stream is written, 1 or 2. The keys are those by
-    /// which names are found in memory: where they are random, no one can choose names that collide.
+    /// An empty table. The version is that of the hashes with which the stream is written, 1 or 2.
+    /// The keys are those by which names are found in memory: where they are random, no one can
+    /// choose names that collide.
     pub fn new(
         alloc: Global,
         keys: RandomState,
@@ -42,7 +46,8 @@ impl NamesTable {
         version: u32,
     ) -> Result<NamesTable, AllocError>
         requires { (version ≡ 1) ⊎ (version ≡ 2) }
-        ensures { IfOk result (λ t. t ≡ record { max_bytes = limits.name_bytes; version = version; names = [] }) }
+        ensures { IfOk result
+            (λ t. t ≡ record { max_bytes = limits.name_bytes; version = version; names = [] }) }
     {
         Ok(NamesTable {
             max_bytes: limits.name_bytes,
@@ -52,8 +57,8 @@ impl NamesTable {
         })
     }
 
-    /// The offset of an equal name, or the name appended. Only a name that is new and passes no limit
-    /// asks for memory.
+    /// The offset of an equal name, or the name appended. Only a name that is new and passes no
+    /// limit asks for memory.
     pub fn add(&mut self, name: &[u8]) -> Result<u32, NameFault>
         requires { IsName name.now }
         ensures { Adds self.old name.now result self.new }

@@ -1,4 +1,5 @@
-//! The names of the protocol's example: each takes its bytes and a NUL behind the NUL of the empty name.
+//! The names of the protocol's example: each takes its bytes and a NUL behind the NUL of the empty
+//! name.
 ghost use Rattle.names_table.specs.Names.{IsName};
 
 use crate::{NameFault, NamesTable};

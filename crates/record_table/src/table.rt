@@ -23,15 +23,20 @@ impl Model for RecordTable {
 
     ghost Value = { Table };
 
-    ghost view = { λ t. record { max_records = t.max_records; max_bytes = t.max_bytes; records = t.records } };
+    ghost view = { λ t. record
+        { max_records = t.max_records; max_bytes = t.max_bytes; records = t.records } };
 
-    ghost invariant = { λ t. All IsRecord t.records × (length t.records ≤ t.max_records) × (length (joined t.records) ≤ t.max_bytes) × (t.max_records ≤ 2 ^ 23) × (t.max_bytes ≤ 2 ^ 30) };
+    ghost invariant = { λ t. All IsRecord t.records × (length t.records ≤ t.max_records)
+        × (length (joined t.records) ≤ t.max_bytes) × (t.max_records ≤ 2 ^ 23)
+        × (t.max_bytes ≤ 2 ^ 30) };
 }
 
 impl RecordTable {
     /// An empty table.
     pub fn new(alloc: Global, limits: Limits) -> Result<RecordTable, AllocError>
-        ensures { IfOk result (λ t. t ≡ record { max_records = limits.records; max_bytes = limits.bytes; records = [] }) }
+        ensures { IfOk result
+            (λ t. t ≡ record
+            { max_records = limits.records; max_bytes = limits.bytes; records = [] }) }
     {
         Ok(RecordTable {
             max_records: limits.records,

@@ -17,13 +17,21 @@ pub const VERSION: u16 = 1;
 
 // The kinds of replies.
 const HELLO_REPLY: u8 = kind::HELLO + kind::REPLY;
+
 const ADD_TYPE_REPLY: u8 = kind::ADD_TYPE + kind::REPLY;
+
 const ADD_ITEM_REPLY: u8 = kind::ADD_ITEM + kind::REPLY;
+
 const ADD_NAME_REPLY: u8 = kind::ADD_NAME + kind::REPLY;
+
 const GET_TYPE_REPLY: u8 = kind::GET_TYPE + kind::REPLY;
+
 const GET_ITEM_REPLY: u8 = kind::GET_ITEM + kind::REPLY;
+
 const GET_NAME_REPLY: u8 = kind::GET_NAME + kind::REPLY;
+
 const COUNTS_REPLY: u8 = kind::COUNTS + kind::REPLY;
+
 const BYE_REPLY: u8 = kind::BYE + kind::REPLY;
 
 /// Writes a request behind what is there, with its length.
@@ -89,7 +97,8 @@ pub fn read_reply<'a>(frame: &'a [u8]) -> Result<Reply<'a>, BadFrame>
 // A body that is the version of the protocol.
 fn read_hello<'a>(body: &[u8]) -> Result<Reply<'a>, BadFrame>
     ensures reply { IfOk result
-        (λ reply. reply_frame reply ≡ record { kind = kinds.HELLO + kinds.REPLY; body = body.now }) }
+        (λ reply. reply_frame reply
+        ≡ record { kind = kinds.HELLO + kinds.REPLY; body = body.now }) }
     ensures answered { IfOk result (λ reply. IsReply reply) }
     ensures err { OnErr result (result ≡ Err BadFrame.Body) }
     ensures bad { OnErr result (half_bytes VERSION ≢ body.now) }
@@ -107,7 +116,8 @@ fn read_hello<'a>(body: &[u8]) -> Result<Reply<'a>, BadFrame>
 // A body that is a name.
 fn read_name<'a>(body: &'a [u8]) -> Result<Reply<'a>, BadFrame>
     ensures reply { IfOk result
-        (λ reply. reply_frame reply ≡ record { kind = kinds.GET_NAME + kinds.REPLY; body = body.now }) }
+        (λ reply. reply_frame reply
+        ≡ record { kind = kinds.GET_NAME + kinds.REPLY; body = body.now }) }
     ensures answered { IfOk result (λ reply. IsReply reply) }
     ensures err { OnErr result (result ≡ Err BadFrame.Body) }
     ensures bad { OnErr result (¬ All (λ b. b ≢ 0) body.now) }
@@ -121,7 +131,8 @@ fn read_name<'a>(body: &'a [u8]) -> Result<Reply<'a>, BadFrame>
 // A body that is three numbers.
 fn read_counts<'a>(body: &[u8]) -> Result<Reply<'a>, BadFrame>
     ensures reply { IfOk result
-        (λ reply. reply_frame reply ≡ record { kind = kinds.COUNTS + kinds.REPLY; body = body.now }) }
+        (λ reply. reply_frame reply
+        ≡ record { kind = kinds.COUNTS + kinds.REPLY; body = body.now }) }
     ensures answered { IfOk result (λ reply. IsReply reply) }
     ensures err { OnErr result (result ≡ Err BadFrame.Body) }
     ensures bad { OnErr result
@@ -142,7 +153,8 @@ fn read_refusal<'a>(body: &[u8]) -> Result<Reply<'a>, BadFrame>
     ensures answered { IfOk result (λ reply. IsReply reply) }
     ensures err { OnErr result (result ≡ Err BadFrame.Body) }
     ensures bad { OnErr result
-        ((code a b : ℕ) → codes.BAD_LENGTH ≤ code → code ≤ codes.UNDERWAY → (refused code a b).body ≢ body.now) }
+        ((code a b : ℕ) → codes.BAD_LENGTH ≤ code → code ≤ codes.UNDERWAY
+        → (refused code a b).body ≢ body.now) }
 {
     if body.len() != 9 {
         return Err(BadFrame::Body);

@@ -33,7 +33,8 @@ pub fn read_request<'a>(frame: &'a [u8]) -> Result<Request<'a>, BadFrame>
 
 fn read_hello<'a>(body: &[u8]) -> Result<Request<'a>, BadFrame>
     ensures request { IfOk result
-        (λ request. request_frame (asked request) ≡ record { kind = kinds.HELLO; body = body.now }) }
+        (λ request. request_frame (asked request)
+        ≡ record { kind = kinds.HELLO; body = body.now }) }
     ensures asked { IfOk result (λ request. IsAsked (asked request)) }
     ensures err { OnErr result (result ≡ Err BadFrame.Body) }
     ensures bad { OnErr result

@@ -87,7 +87,8 @@ fn send_answer<L: Link, K: Desk>(
 // Refuses the length that stands in the place of a frame.
 fn send_refusal<L: Link>(link: &mut L, length: u32, reply: &mut Piece) -> SessionEnd
     requires { reply.old ≡ [] }
-    ensures sent { (sent : List ℕ) × Sends result sent (frame_bytes (refused codes.BAD_LENGTH length 0))
+    ensures sent { (sent : List ℕ)
+        × Sends result sent (frame_bytes (refused codes.BAD_LENGTH length 0))
         × WentTo L.Sink sent link.old link.new }
     ensures ends { (result ≡ SessionEnd.WriteFault) ⊎ (result ≡ SessionEnd.BadLength) }
     ensures calls { CallsSink L.Sink (result ≡ SessionEnd.WriteFault) link.old link.new }

@@ -70,13 +70,13 @@ pub every_reading : (most : ℕ) (bytes : List ℕ) → length bytes ≤ most �
 every_reading zero bytes le small = short bytes (omega (arith, le))
 every_reading (suc most) bytes le small = ⊎_elim
     (λ long.
-        let n = little_number 4 bytes in
-        let rest = drop 4 bytes in
-        let spelled : bytes ≡ word_bytes n ++ rest = sym (word_bytes-read bytes long.1 small) in
-        ⊎_elim
-        (λ len. framed bytes rest n spelled len
-            (λ whole. every_reading most (drop n rest) (omega (arith, le, long.1, len.0, whole, length-drop n rest, length-drop 4 bytes)) (small_drop n rest (small_drop 4 bytes small))))
-        (λ bad. record { frames = []; tail = bad_length n; are = (rest, spelled, small_number bytes small, bad) })
-        (length_or_not n))
+    let n = little_number 4 bytes in
+    let rest = drop 4 bytes in
+    let spelled : bytes ≡ word_bytes n ++ rest = sym (word_bytes-read bytes long.1 small) in
+    ⊎_elim
+    (λ len. framed bytes rest n spelled len
+    (λ whole. every_reading most (drop n rest) (omega (arith, le, long.1, len.0, whole, length-drop n rest, length-drop 4 bytes)) (small_drop n rest (small_drop 4 bytes small))))
+    (λ bad. record { frames = []; tail = bad_length n; are = (rest, spelled, small_number bytes small, bad) })
+    (length_or_not n))
     (λ few. short bytes few.1)
     (leb_tells 4 (length bytes))

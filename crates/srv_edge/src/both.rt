@@ -42,8 +42,11 @@ impl<'a, S: Source, K: Sink> Sink for Both<'a, S, K> {
     ghost loans = { λ b. b.source.ghost_name ∷ b.sink.ghost_name
         ∷ (S.loans b.source.now ++ K.loans b.sink.now) };
 
-    ghost beside = { λ b. record
-        { bytes = S.given b.source.now; rest = S.left b.source.now; faults = S.faults b.source.now } };
+    ghost beside = { λ b. record {
+      bytes = S.given b.source.now;
+      rest = S.left b.source.now;
+      faults = S.faults b.source.now;
+    } };
 
     fn give(&mut self, bytes: &[u8]) -> Result<usize, Failed> {
         Sink::give(&mut *self.sink, bytes)

@@ -9,8 +9,8 @@ use names_table::{NameFault, NamesTable};
 use record_table::{AddFault, RecordTable};
 use srv_edge::{Refusal, limit, space};
 
-/// Judges a record of a space and its fields, where there are so many types and items, and adds it to the
-/// table of its space. A refused record leaves the table.
+/// Judges a record of a space and its fields, where there are so many types and items, and adds it
+/// to the table of its space. A refused record leaves the table.
 pub fn add_record(
     space: Space,
     table: &mut RecordTable,

@@ -1,5 +1,5 @@
-//! The one-thread table: its calls, what they answer and the tables that they leave; the judgement that an add goes
-//! through; and a plain table, which answers by searching lists from their front.
+//! The one-thread table: its calls, what they answer and the tables that they leave; the judgement
+//! that an add goes through; and a plain table, which answers by searching lists from their front.
 #![tactic(auto)]
 
 mod add;

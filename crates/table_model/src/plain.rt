@@ -17,7 +17,8 @@ use srv_edge::{Limits, RecordList, Refusal, Text, limit, space};
 use std::alloc::{AllocError, Global};
 use std::marker::Model;
 
-/// The one-thread table over plain lists, each searched from its front: slow, to compare others with.
+/// The one-thread table over plain lists, each searched from its front: slow, to compare others
+/// with.
 #[derive(Drop)]
 pub struct PlainTable {
     alloc: Global,

@@ -143,7 +143,8 @@ fn answers_of_one_table(rt: HostRuntime) -> Result<(), Fail> {
     talk(&rt, rt.alloc(), Limits::STANDARD, &NAMES)
 }
 
-// So many records, bytes and bytes of names fit, and one more does not. What is there is still answered.
+// So many records, bytes and bytes of names fit, and one more does not. What is there is still
+// answered.
 static LIMITED: [(u8, u8, u8, &[(Ask, Want)]); 5] = [
     (
         1,

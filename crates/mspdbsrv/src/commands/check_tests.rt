@@ -1,4 +1,5 @@
-//! `check` over files in memory: the line of a file that reads, each damage once, and each call failing.
+//! `check` over files in memory: the line of a file that reads, each damage once, and each call
+//! failing.
 
 use crate::device_of;
 use crate::plan::plan_of;
@@ -19,8 +20,9 @@ fn words_of(alloc: Global, command: &str, path: &str) -> Result<Vec<Word>, Fail>
     Ok(words)
 }
 
-// A file of six blocks of 512 bytes with the streams 0, of no bytes, and 1, of the bytes 01 02 03. Block 1 is the
-// active map, block 3 holds the stream, block 4 the directory and block 5 the block map.
+// A file of six blocks of 512 bytes with the streams 0, of no bytes, and 1, of the bytes 01 02 03.
+// Block 1 is the active map, block 3 holds the stream, block 4 the directory and block 5 the block
+// map.
 fn small_file(alloc: Global) -> Result<Vec<u8>, Fail> {
     let mut file = vec![in alloc; 0; 3072]?;
     file[..32].copy_from_slice(b"Microsoft C/C++ MSF 7.00\r\n\x1aDS\0\0\0");
@@ -162,8 +164,8 @@ fn lengths(rt: HostRuntime) -> Result<(), Fail> {
     Ok(())
 }
 
-// Each of the five calls on the device fails in turn: its size, the superblock, the block map, the directory and the
-// free block map. Then the sink fails, over a whole file and over a damaged one.
+// Each of the five calls on the device fails in turn: its size, the superblock, the block map, the
+// directory and the free block map. Then the sink fails, over a whole file and over a damaged one.
 #[test]
 fn each_call_fails(rt: HostRuntime) -> Result<(), Fail> {
     let keys = RandomState::new(&rt)?;

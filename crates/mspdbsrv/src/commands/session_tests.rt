@@ -1,5 +1,5 @@
-//! Sessions by their bytes, as hexadecimal text. In the replies 82 to 8a are the kinds of answers, and
-//! ff that of a refusal: its code, and its two numbers.
+//! Sessions by their bytes, as hexadecimal text. In the replies 82 to 8a are the kinds of answers,
+//! and ff that of a refusal: its code, and its two numbers.
 ghost use Rattle.std.specs.Prelude.{◌<◌, ◌≡◌, true};
 
 use crate::run::run;
@@ -21,7 +21,8 @@ const TWO: &str = "0d000000020a000110740000000100f2f1 0d000000020a00011074000000
 
 const TWICE: &str = "050000008200100000050000008200100000";
 
-// A session's input comes in pieces of so many bytes and one more: in one piece, a byte each, and seven.
+// A session's input comes in pieces of so many bytes and one more: in one piece, a byte each, and
+// seven.
 const PIECES: [u8; 3] = [255, 0, 6];
 
 // A device that fails at every call, which a session never asks.
@@ -45,8 +46,8 @@ fn source_of(alloc: Global, input: &str, piece: usize, fail: &[u32]) -> Result<M
     Ok(MemSource::new(bytes, piece, Vec::from_slice(alloc, fail)?))
 }
 
-// The replies of a session as hexadecimal text, and its status, with a source that gives a byte and at
-// most so many more in each call.
+// The replies of a session as hexadecimal text, and its status, with a source that gives a byte and
+// at most so many more in each call.
 fn talk(
     alloc: Global,
     keys: RandomState,
@@ -119,7 +120,8 @@ fn records_by_their_bytes(rt: HostRuntime) -> Result<(), Fail> {
             "050000008200100000 050000008201100000",
             Status::Ok,
         ),
-        // a field list, a structure that has it, an item that names the structure, a name, the counts, and Bye
+        // a field list, a structure that has it, an item that names the structure, a name, the
+        // counts, and Bye
         (
             "11000000020e0003120d1503007400000000007800
              21000000021e0005150100000200100000000000000000000004005300 2e3f41555340 4000
@@ -425,7 +427,8 @@ fn one_byte_a_give(rt: HostRuntime) -> Result<(), Fail> {
     Ok(())
 }
 
-// The replies of a session whose input begins so and then has so many bytes of one kind, and its end.
+// The replies of a session whose input begins so and then has so many bytes of one kind, and its
+// end.
 fn talk_of(
     alloc: Global,
     keys: RandomState,
@@ -445,8 +448,8 @@ fn talk_of(
     Ok((hex::encode(alloc, sink.taken())?, status))
 }
 
-// The longest record is taken, a list of 16,382 arguments, and the longest name. A name of a byte more is a bad body, and
-// leaves the tables empty.
+// The longest record is taken, a list of 16,382 arguments, and the longest name. A name of a byte
+// more is a bad body, and leaves the tables empty.
 #[test]
 fn longest_record_and_name(rt: HostRuntime) -> Result<(), Fail> {
     let keys = RandomState::new(&rt)?;
