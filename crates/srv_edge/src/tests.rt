@@ -262,3 +262,28 @@ fn a_real_file(rt: HostRuntime) -> Result<(), Fail> {
     assert_eq!(rt; text, file_of(rt.alloc(), b'h', b"abcd", 0)?);
     Ok(())
 }
+
+// Five thousand calls are kept, one of which fails: 2,500 writes of a byte each, a sync, and writes
+// behind it, which are not settled.
+#[test]
+fn thousands_of_calls_are_kept(rt: HostRuntime) -> Result<(), Fail> {
+    let alloc = rt.alloc();
+    let mut device = MemDevice::new(alloc, file_of(alloc, 0, b"", 0)?, vec![in alloc; 4000; 1]?);
+    for k in 0..2500u64 {
+        assert!(rt; device.write(512 + k, &[(k % 251) as u8]).is_ok());
+    }
+    assert!(rt; device.sync().is_ok());
+    for k in 2501..5000u64 {
+        assert_eq!(rt; device.write(512 + k, &[1]).is_ok(), k != 4000);
+    }
+    assert_eq!(rt; (device.calls(), device.faults()), (5000, 1));
+    let mut want = file_of(alloc, 0, b"", 0)?;
+    for k in 0..5000u64 {
+        want.push(if k < 2500 { (k % 251) as u8 } else { 0xee })?;
+    }
+    let calls = device.calls();
+    assert_eq!(rt; device.image(calls, 0xee, false)?, want);
+    assert_eq!(rt; device.kind_at(4000), Some(CallKind::Write { at: 4512 }));
+    assert_eq!(rt; device.kind_at(4999), Some(CallKind::Write { at: 5511 }));
+    Ok(())
+}
