@@ -7,7 +7,7 @@ use Rattle.call_journal.specs.declared.deed.Limit.{Limit}
 use Rattle.call_journal.specs.declared.deed.Limit.TheVariants as limit
 use Rattle.call_journal.specs.declared.deed.Deed.{Deed}
 use Rattle.call_journal.specs.declared.deed.Deed.TheVariants.{Added, Asked, Counted, NotGiven, Full, Began, Ended, Underway}
-use Rattle.call_journal.specs.Words.{IsDeed, deed_by, deed_of, end_of, full, kind_of, limit_number, limit_of, low_of, middle_of, not_given, number_of, plain_deed, table_of, with_table, word_of}
+use Rattle.call_journal.specs.Words.{IsDeed, deed_by, deed_of, end_of, full_deed, kind_of, limit_number, limit_of, low_of, middle_of, not_given_deed, number_of, plain_deed, table_of, with_table, word_of}
 
 -- a word by its four parts
 abbrev word_by : ℕ → ℕ → ℕ → ℕ → ℕ
@@ -96,7 +96,7 @@ unfolding word_of
 parts_of caller deed is = has_parts caller (kind_of deed) (middle_of deed) (low_of deed) (small_kind deed) (small_middle deed) is
 
 -- a word tells its caller
-pub caller_of_word : (caller : ℕ) (deed : Deed) → IsDeed deed → word_of caller deed / 72057594037927936 ≡ caller
+pub caller_of_word : (caller : ℕ) (deed : Deed) → IsDeed deed → word_of caller deed / 2 ^ 56 ≡ caller
 caller_of_word caller deed is = (parts_of caller deed is).caller_is
 
 -- a word tells its deed
@@ -122,14 +122,14 @@ limit_back n l e = grind arith
 abbrev AreOf : ℕ → ℕ → ℕ → Deed → Type 0
 AreOf kind middle low deed = (kind ≡ kind_of deed) × (middle ≡ middle_of deed) × (low ≡ low_of deed)
 
-not_given_back : (middle low : ℕ) (space table : Option TableKind) (deed : Deed) → table_of (middle % 4) ≡ space → table_of (middle / 4) ≡ table → not_given low space table ≡ Some deed → AreOf 8 middle low deed
+not_given_back : (middle low : ℕ) (space table : Option TableKind) (deed : Deed) → table_of (middle % 4) ≡ space → table_of (middle / 4) ≡ table → not_given_deed low space table ≡ Some deed → AreOf 8 middle low deed
 not_given_back middle low None table deed s t e = absurd (grind arith)
 not_given_back middle low (Some space) None deed s t e = absurd (grind arith)
 not_given_back middle low (Some space) (Some table) deed s t e =
     let d : NotGiven low space table ≡ deed = grind arith in
     subst (AreOf 8 middle low) d (refl, omega (arith, number_back (middle % 4) space s, number_back (middle / 4) table t), refl)
 
-full_back : (middle low : ℕ) (l : Option Limit) (table : Option TableKind) (deed : Deed) → limit_of (middle % 4) ≡ l → table_of (middle / 4) ≡ table → full low l table ≡ Some deed → AreOf 9 middle low deed
+full_back : (middle low : ℕ) (l : Option Limit) (table : Option TableKind) (deed : Deed) → limit_of (middle % 4) ≡ l → table_of (middle / 4) ≡ table → full_deed low l table ≡ Some deed → AreOf 9 middle low deed
 full_back middle low None table deed s t e = absurd (grind arith)
 full_back middle low (Some l) None deed s t e = absurd (grind arith)
 full_back middle low (Some l) (Some table) deed s t e =
@@ -191,7 +191,7 @@ deed_back kind middle low deed e =
     chosen (at kind) middle 0 _ _ deed e (λ m f. subst (λ m. AreOf kind m low deed) (sym m) (plain_back kind low deed f)) (λ _ e. absurd (grind arith)))))
 
 -- a word is that of the caller and the deed that it tells
-pub word_of_deed : (word : ℕ) (deed : Deed) → deed_of word ≡ Some deed → word < 2 ^ 64 → word ≡ word_of (word / 72057594037927936) deed
+pub word_of_deed : (word : ℕ) (deed : Deed) → deed_of word ≡ Some deed → word < 2 ^ 64 → word ≡ word_of (word / 2 ^ 56) deed
 unfolding deed_of word_of
 word_of_deed word deed e lt =
     let p : AreOf (word / 2 ^ 48 % 256) (word / 2 ^ 32 % 65536) (word % 2 ^ 32) deed = deed_back (word / 2 ^ 48 % 256) (word / 2 ^ 32 % 65536) (word % 2 ^ 32) deed e in

@@ -26,12 +26,11 @@ abbrev pub IsBlank : Vec ℕ → Type 0
 IsBlank page = (page.items ≡ []) × (1024 ≤ vec_capacity page)
 
 -- The full pages, the page that is being filled, and the blank ones. There is room among the full ones for each blank
--- one. Before the first page there is none at all.
+-- one. Before the first page there is none at all. The words and those that there is room for are fewer than 2^32.
 pub record AreInOrder (full : Vec (Vec ℕ)) (page : Vec ℕ) (blank : Vec (Vec ℕ)) : Type 0 where
   pub all_full : All IsFull full.items
   pub all_blank : All IsBlank blank.items
   pub within : vec_len page ≤ min (vec_capacity page) 1024
   pub first : vec_capacity page < 1024 → (vec_capacity page ≡ 0) × (vec_len blank ≡ 0)
   pub room : vec_len full + vec_len blank ≤ vec_capacity full
-  pub few_blank : vec_len blank ≤ 2 ^ 22
-  pub few_words : 1024 * vec_len full + vec_len page < 2 ^ 32
+  pub few_words : 1024 * vec_len full + vec_len page + spare_in page blank < 2 ^ 32

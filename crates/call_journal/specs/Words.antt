@@ -74,14 +74,14 @@ with_table None deed = None
 with_table (Some table) deed = Some (deed table)
 
 -- an add refused as not given, by the numbers of its two tables
-abbrev pub not_given : ℕ → Option TableKind → Option TableKind → Option Deed
-not_given index None table = None
-not_given index (Some space) table = with_table table (NotGiven index space)
+abbrev pub not_given_deed : ℕ → Option TableKind → Option TableKind → Option Deed
+not_given_deed index None table = None
+not_given_deed index (Some space) table = with_table table (NotGiven index space)
 
 -- an add refused as full, by the numbers of the limit and of the table
-abbrev pub full : ℕ → Option Limit → Option TableKind → Option Deed
-full length None table = None
-full length (Some limit) table = with_table table (Full length limit)
+abbrev pub full_deed : ℕ → Option Limit → Option TableKind → Option Deed
+full_deed length None table = None
+full_deed length (Some limit) table = with_table table (Full length limit)
 
 -- a commit's end: 0 where it faulted, 1 where it was acknowledged
 abbrev pub end_of : ℕ → ℕ → Option Deed
@@ -100,8 +100,8 @@ plain_deed kind low =
 -- the deed of a kind, of bits 32 to 47 and of bits 0 to 31
 abbrev pub deed_by : ℕ → ℕ → ℕ → Option Deed
 deed_by kind middle low =
-    if kind == 8 then not_given low (table_of (middle % 4)) (table_of (middle / 4))
-    else if kind == 9 then full low (limit_of (middle % 4)) (table_of (middle / 4))
+    if kind == 8 then not_given_deed low (table_of (middle % 4)) (table_of (middle / 4))
+    else if kind == 9 then full_deed low (limit_of (middle % 4)) (table_of (middle / 4))
     else if kind == 11 then end_of low middle
     else if middle == 0 then plain_deed kind low
     else None

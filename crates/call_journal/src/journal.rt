@@ -1,4 +1,4 @@
-ghost use Rattle.std.specs.Prelude.{◌≡◌, ◌≤◌, ◌<◌, ◌+◌, ◌-◌, ◌^◌, ◌↔◌, ◌++◌, ◌∷◌, [], All, length, min, slice_get, vec_len, IsOk, IsTrue, OnErr, OnOk};
+ghost use Rattle.std.specs.Prelude.{◌≡◌, ◌≤◌, ◌<◌, ◌+◌, ◌^◌, ◌↔◌, ◌++◌, ◌∷◌, [], All, length, min, slice_get, vec_len, IsOk, IsTrue, OnErr, OnOk};
 ghost use Rattle.std.specs.Vec.{vec_capacity};
 ghost use Rattle.call_journal.specs.Journal.{AreInOrder, IsFull, spare_in, words_in};
 
@@ -9,8 +9,11 @@ use std::mem;
 /// How many words a page holds.
 pub const PAGE_WORDS: usize = 1024;
 
+// How many pages there may be, so that their words are fewer than 2^32.
+const MOST_PAGES: usize = u32::MAX as usize / PAGE_WORDS;
+
 /// A journal of words, in pages: growing moves no word that is there. Contracts see its words and its spare:
-/// for how many more there is room.
+/// for how many more there is room. Both together are fewer than 2^32.
 #[derive(Drop)]
 pub struct Journal {
     alloc: Global,
@@ -25,7 +28,10 @@ impl Model for Journal {
 
     ghost Value = { Log };
 
-    ghost view = { λ j. record { words = words_in j.full.items ++ j.page.items; spare = spare_in j.page j.blank } };
+    ghost view = { λ j. record {
+      words = words_in j.full.items ++ j.page.items;
+      spare = spare_in j.page j.blank;
+    } };
 
     ghost invariant = { λ j. AreInOrder j.full j.page j.blank };
 }
@@ -44,7 +50,8 @@ impl Journal {
         }
     }
 
-    /// Makes room for so many words, page by page. Where memory is wanted, the pages that it got stay.
+    /// Makes room for so many words, page by page. Where memory is wanted, the pages that it got stay. There is none
+    /// for a page that would bring the words and the room for more to 2^32.
     pub fn reserve(&mut self, n: u32) -> Result<(), AllocError>
         ensures words { self.new.words ≡ self.old.words }
         ensures spare { self.old.spare ≤ self.new.spare }
@@ -59,11 +66,13 @@ impl Journal {
 
     // Makes room for a page more.
     fn add_page(&mut self) -> Result<(), AllocError>
-        requires { self.old.spare < 2 ^ 32 }
         ensures words { self.new.words ≡ self.old.words }
         ensures ok { OnOk result (self.new.spare ≡ self.old.spare + 1024) }
         ensures err { OnErr result (self.new.spare ≡ self.old.spare) }
     {
+        if self.full.len() + self.blank.len() + 2 > MOST_PAGES {
+            return Err(AllocError);
+        }
         let page = Vec::with_capacity(self.alloc, PAGE_WORDS)?;
         if self.page.capacity() == 0 {
             self.page = page;
@@ -76,8 +85,7 @@ impl Journal {
 
     /// Appends a word. It takes no memory and cannot fail.
     pub fn push(&mut self, word: u64)
-        requires spare { 0 < self.old.spare }
-        requires few { length self.old.words + 1 < 2 ^ 32 }
+        requires { 0 < self.old.spare }
         ensures words { self.new.words ≡ self.old.words ++ word ∷ [] }
         ensures spare { self.new.spare + 1 ≡ self.old.spare }
     {
@@ -85,23 +93,25 @@ impl Journal {
         self.page.push(word).unwrap();
     }
 
-    /// For how many words more there is room, or 2^32 - 1 where for more.
+    /// For how many words more there is room.
     pub fn spare(&self) -> u32
-        ensures { result ≡ min self.now.spare (2 ^ 32 - 1) }
+        ensures { result ≡ self.now.spare }
     {
-        self.room().min(u32::MAX as usize) as u32
+        self.room() as u32
     }
 
     // For how many words more there is room.
     fn room(&self) -> usize
-        ensures { result ≡ self.now.spare }
+        ensures spare { result ≡ self.now.spare }
+        ensures few { result < 2 ^ 32 }
     {
         self.page.capacity().min(PAGE_WORDS) - self.page.len() + PAGE_WORDS * self.blank.len()
     }
 
-    /// How many words there are: fewer than 2^32.
+    /// How many words there are.
     pub fn len(&self) -> u32
-        ensures { result ≡ length self.now.words }
+        ensures count { result ≡ length self.now.words }
+        ensures few { length self.now.words + self.now.spare < 2 ^ 32 }
     {
         (PAGE_WORDS * self.full.len() + self.page.len()) as u32
     }
@@ -124,10 +134,10 @@ impl Journal {
 fn turn_to_room(full: &mut Vec<Vec<u64>>, page: &mut Vec<u64>, blank: &mut Vec<Vec<u64>>)
     requires order { AreInOrder full.old page.old blank.old }
     requires spare { 0 < spare_in page.old blank.old }
-    requires few { length (words_in full.old.items ++ page.old.items) + 1 < 2 ^ 32 }
     ensures order { AreInOrder full.new page.new blank.new }
     ensures room { vec_len page.new < min (vec_capacity page.new) 1024 }
-    ensures words { words_in full.new.items ++ page.new.items ≡ words_in full.old.items ++ page.old.items }
+    ensures words { words_in full.new.items ++ page.new.items
+        ≡ words_in full.old.items ++ page.old.items }
     ensures spare { spare_in page.new blank.new ≡ spare_in page.old blank.old }
 {
     if page.len() < page.capacity().min(PAGE_WORDS) {

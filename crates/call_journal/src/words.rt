@@ -1,5 +1,5 @@
 ghost use Rattle.std.specs.Prelude.{◌≡◌, ◌/◌, ◌^◌, ◌<◌, ◌≤◌};
-ghost use Rattle.call_journal.specs.Words.{deed_by, deed_of, full, kind_of, limit_number, limit_of, low_of, middle_of, not_given, number_of, plain_deed, table_of, word_of};
+ghost use Rattle.call_journal.specs.Words.{deed_by, deed_of, full_deed, kind_of, limit_number, limit_of, low_of, middle_of, not_given_deed, number_of, plain_deed, table_of, word_of};
 
 use crate::deed::{Deed, Limit, TableKind};
 
@@ -131,8 +131,8 @@ fn deed_by(kind: u64, middle: u64, low: u32) -> Option<Deed>
     ensures { result ≡ deed_by kind middle low }
 {
     match kind {
-        8 => not_given(low, table_of(middle % 4), table_of(middle / 4)),
-        9 => full(low, limit_of(middle % 4), table_of(middle / 4)),
+        8 => not_given_deed(low, table_of(middle % 4), table_of(middle / 4)),
+        9 => full_deed(low, limit_of(middle % 4), table_of(middle / 4)),
         11 if middle == 0 => Some(Deed::Ended {
             number: low,
             acknowledged: false,
@@ -146,8 +146,8 @@ fn deed_by(kind: u64, middle: u64, low: u32) -> Option<Deed>
     }
 }
 
-fn not_given(index: u32, space: Option<TableKind>, table: Option<TableKind>) -> Option<Deed>
-    ensures { result ≡ not_given index space table }
+fn not_given_deed(index: u32, space: Option<TableKind>, table: Option<TableKind>) -> Option<Deed>
+    ensures { result ≡ not_given_deed index space table }
 {
     Some(Deed::NotGiven {
         index,
@@ -156,8 +156,8 @@ fn not_given(index: u32, space: Option<TableKind>, table: Option<TableKind>) -> 
     })
 }
 
-fn full(length: u32, limit: Option<Limit>, table: Option<TableKind>) -> Option<Deed>
-    ensures { result ≡ full length limit table }
+fn full_deed(length: u32, limit: Option<Limit>, table: Option<TableKind>) -> Option<Deed>
+    ensures { result ≡ full_deed length limit table }
 {
     Some(Deed::Full {
         length,

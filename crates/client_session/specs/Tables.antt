@@ -1,16 +1,19 @@
 -- The one-thread table as a desk: the reply frame to each request, and the tables that it leaves.
-use Rattle.std.specs.Prelude.{◌≡◌, ◌⊎◌, ℕ, Bool, false, IsTrue, List, [], ◌++◌, Option, Result, Ok, Err}
-use Rattle.leaf_grammar.specs.declared.grammar.Space.TheVariants.{Types, Items}
-use Rattle.names_table.specs.Names as strings
+use Rattle.std.specs.Prelude.{◌≡◌, ◌+◌, ℕ, IsTrue, List, [], ◌++◌, Option, None, Some, Result, Ok, Err}
 use Rattle.srv_edge.specs.declared.failed.Refusal.{Refusal}
 use Rattle.srv_edge.specs.declared.failed.Refusal.TheVariants.{OutOfMemory}
 use Rattle.srv_edge.specs.Frames.{Frame, half_bytes, word_bytes}
 use Rattle.request_frames.specs.Refusals.{refusal_frame}
-use Rattle.request_frames.specs.Requests.{Asked, hello, add_type, add_item, add_name, get_type, get_item, get_name, counts, bye}
+use Rattle.request_frames.specs.Requests.{Asked, hello, add_type, add_item, add_name, get_type, get_item, get_name, counts, bye, request_frame}
+use Rattle.request_frames.specs.Talk.{AnswersWith}
+use Rattle.request_frames.specs.declared.client.TheConstants.{VERSION}
+use Rattle.srv_edge.specs.declared.kind.TheConstants.{REPLY}
+use Rattle.srv_edge.specs.Growth.{AnswersOrWants}
+use Rattle.table_model.specs.declared.call.Call.{Call}
 use Rattle.table_model.specs.declared.call.Call.TheVariants as call
 use Rattle.table_model.specs.declared.call.Outcome.{Outcome}
 use Rattle.table_model.specs.declared.call.Outcome.TheVariants.{Index, Bytes, Counts}
-use Rattle.table_model.specs.Calls.{answer, bytes_answer, index_answer, tables_after}
+use Rattle.table_model.specs.Calls.{answer, bytes_answer, grows, index_answer, tables_after}
 pub use Rattle.table_model.specs.Tables.{Tables, answer_of_add, answer_of_name, answer_to_bytes, answer_to_leaf, answer_to_name, answer_to_record, comes_to_table, item_count, record_grows, space_number, table_after, type_count}
 
 -- the frame of a call's answer, of this kind where it is no refusal
@@ -28,44 +31,42 @@ index_reply kind r = answer_frame kind (index_answer r)
 abbrev pub bytes_reply : ℕ → Option (List ℕ) → Refusal → Frame
 bytes_reply kind found refusal = answer_frame kind (bytes_answer found refusal)
 
--- The reply to a request, where memory is there: a call's answer. The protocol's version is 1.
-abbrev pub reply_to : Tables → Asked → Frame
-reply_to x (hello version) = record { kind = 129; body = half_bytes 1 }
-reply_to x (add_type r) = answer_frame 130 (answer x (call.AddType r))
-reply_to x (add_item r) = answer_frame 131 (answer x (call.AddItem r))
-reply_to x (add_name name) = answer_frame 132 (answer x (call.AddName name))
-reply_to x (get_type index) = answer_frame 133 (answer x (call.GetType index))
-reply_to x (get_item index) = answer_frame 134 (answer x (call.GetItem index))
-reply_to x (get_name offset) = answer_frame 135 (answer x (call.GetName offset))
-reply_to x counts = answer_frame 137 (answer x call.Counts)
-reply_to x bye = record { kind = 138; body = [] }
+-- the call that a request makes, if it makes one
+abbrev pub call_of : Asked → Option Call
+call_of (hello version) = None
+call_of (add_type r) = Some (call.AddType r)
+call_of (add_item r) = Some (call.AddItem r)
+call_of (add_name name) = Some (call.AddName name)
+call_of (get_type index) = Some (call.GetType index)
+call_of (get_item index) = Some (call.GetItem index)
+call_of (get_name offset) = Some (call.GetName offset)
+call_of counts = Some call.Counts
+call_of bye = None
 
--- the tables that a request leaves, where memory is there
-abbrev pub after : Tables → Asked → Tables
-after x (hello version) = x
-after x (add_type r) = tables_after x (call.AddType r)
-after x (add_item r) = tables_after x (call.AddItem r)
-after x (add_name name) = tables_after x (call.AddName name)
-after x (get_type index) = tables_after x (call.GetType index)
-after x (get_item index) = tables_after x (call.GetItem index)
-after x (get_name offset) = tables_after x (call.GetName offset)
-after x counts = tables_after x call.Counts
-after x bye = x
+-- the body of the reply to a request that makes no call: the version that is spoken, or nothing
+abbrev pub greeting : Asked → List ℕ
+greeting (hello version) = half_bytes VERSION
+greeting _ = []
 
--- whether a request makes a table grow
-abbrev pub grows : Tables → Asked → Bool
-grows x (hello version) = false
-grows x (add_type r) = record_grows Types x.types (type_count x) (item_count x) r
-grows x (add_item r) = record_grows Items x.items (type_count x) (item_count x) r
-grows x (add_name name) = strings.appends x.names name
-grows x (get_type index) = false
-grows x (get_item index) = false
-grows x (get_name offset) = false
-grows x counts = false
-grows x bye = false
+-- the kind of a reply that is no refusal
+abbrev pub reply_kind : Asked → ℕ
+reply_kind a = (request_frame a).kind + REPLY
 
--- A request is answered as the one-thread table says. One that makes a table grow may want memory
+-- A call is answered as the one-thread table says, with a reply of this kind. One that makes a table grow may want memory
 -- instead, and then changes nothing.
+abbrev pub AnswersCall : ℕ → Tables → Call → Frame → Tables → Type 0
+AnswersCall kind old c reply new =
+    AnswersOrWants (refusal_frame OutOfMemory) (IsTrue (grows old c)) (answer_frame kind (answer old c)) (tables_after old c) reply old new
+
+-- the answer to what a request asks: to its call, or, where it makes none, this body
+abbrev pub AnswersAsked : Option Call → ℕ → List ℕ → Tables → Frame → Tables → Type 0
+AnswersAsked (Some c) kind body old reply new = AnswersCall kind old c reply new
+AnswersAsked None kind body old reply new = (reply ≡ record { kind = kind; body = body }) × (new ≡ old)
+
+-- a request is answered
 abbrev pub Answers : Tables → Asked → Frame → Tables → Type 0
-Answers old a reply new =
-    ((reply ≡ reply_to old a) × (new ≡ after old a)) ⊎ (IsTrue (grows old a) × (reply ≡ refusal_frame OutOfMemory) × (new ≡ old))
+Answers old a reply new = AnswersAsked (call_of a) (reply_kind a) (greeting a) old reply new
+
+-- a desk that no file lies beneath: it has no faults and holds no references
+abbrev pub AnswersAlone : Tables → Asked → Frame → Tables → Type 0
+AnswersAlone = AnswersWith Answers (λ _. 0) (λ _. [])

@@ -1,12 +1,13 @@
-ghost use Rattle.std.specs.Prelude.{◌≡◌, IfOk, []};
+ghost use Rattle.std.specs.Prelude.{◌≡◌, IfOk};
 ghost use Rattle.client_session.specs.Tables.{Answers};
+ghost use Rattle.table_model.specs.Tables.{empty_tables};
 
-use crate::replies::{write_bytes, write_counts, write_index};
+use crate::replies::{write_bytes, write_counts, write_index, write_reply};
 use leaf_grammar::Space;
 use names_table::NamesTable;
 use record_table::RecordTable;
-use request_frames::{Desk, Request, VERSION, write_frame};
-use srv_edge::{Limits, Piece, Refusal, half};
+use request_frames::{Desk, Request, VERSION};
+use srv_edge::{Limits, Piece, Refusal, half, kind, space};
 use std::alloc::{AllocError, Global};
 use std::hash::RandomState;
 use std::marker::Model;
@@ -31,9 +32,7 @@ impl Model for Bare {
 impl Bare {
     /// A desk over empty tables. The keys are those by which names are found in memory.
     pub fn new(alloc: Global, keys: RandomState, limits: Limits) -> Result<Bare, AllocError>
-        ensures types { IfOk result (λ b. b.types ≡ record { max_records = limits.records; max_bytes = limits.bytes; records = [] }) }
-        ensures items { IfOk result (λ b. b.items ≡ record { max_records = limits.records; max_bytes = limits.bytes; records = [] }) }
-        ensures names { IfOk result (λ b. b.names ≡ record { max_bytes = limits.name_bytes; version = 1; names = [] }) }
+        ensures { IfOk result (λ b. b ≡ empty_tables limits) }
     {
         Ok(Bare {
             types: RecordTable::new(alloc, limits)?,
@@ -46,39 +45,49 @@ impl Bare {
 impl Desk for Bare {
     type Ground = ();
 
-    ghost answers = { λ old a reply new. Answers old a reply new };
+    ghost answers = { Answers };
 
     fn answer(&mut self, _ground: &(), request: &Request, out: &mut Piece) {
         let types = self.types.len();
         let items = self.items.len();
         match *request {
-            Request::Hello(_) => write_frame(0x81, &half(VERSION), out),
+            Request::Hello(_) => write_reply(kind::HELLO, &half(VERSION), out),
             Request::AddType(bytes) => {
                 let answer = add_record(Space::Types, &mut self.types, types, items, bytes);
-                write_index(0x82, answer, out);
+                write_index(kind::ADD_TYPE, answer, out);
             }
             Request::AddItem(bytes) => {
                 let answer = add_record(Space::Items, &mut self.items, types, items, bytes);
-                write_index(0x83, answer, out);
+                write_index(kind::ADD_ITEM, answer, out);
             }
-            Request::AddName(name) => write_index(0x84, add_name(&mut self.names, name), out),
+            Request::AddName(name) => write_index(
+                kind::ADD_NAME,
+                add_name(&mut self.names, name),
+                out,
+            ),
             Request::GetType(index) => {
-                let missing = Refusal::NotGiven { space: 0, index };
-                write_bytes(0x85, self.types.get(index), missing, out);
+                let missing = Refusal::NotGiven {
+                    space: space::TYPES,
+                    index,
+                };
+                write_bytes(kind::GET_TYPE, self.types.get(index), missing, out);
             }
             Request::GetItem(index) => {
-                let missing = Refusal::NotGiven { space: 1, index };
-                write_bytes(0x86, self.items.get(index), missing, out);
+                let missing = Refusal::NotGiven {
+                    space: space::ITEMS,
+                    index,
+                };
+                write_bytes(kind::GET_ITEM, self.items.get(index), missing, out);
             }
             Request::GetName(offset) => {
                 let missing = Refusal::NotGiven {
-                    space: 2,
+                    space: space::NAMES,
                     index: offset,
                 };
-                write_bytes(0x87, self.names.get(offset), missing, out);
+                write_bytes(kind::GET_NAME, self.names.get(offset), missing, out);
             }
             Request::Counts => write_counts(types, items, self.names.len(), out),
-            Request::Bye => write_frame(0x8a, &[], out),
+            Request::Bye => write_reply(kind::BYE, &[], out),
         }
     }
 }

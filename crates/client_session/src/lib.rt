@@ -3,5 +3,7 @@
 
 mod bare;
 mod replies;
+#[cfg(test)]
+mod tests;
 
 pub use crate::bare::Bare;

@@ -14,7 +14,7 @@ use Rattle.core_model.specs.History.{IsLegal, IsStart, OpenCommit, Standing, aft
 use Rattle.core_model.specs.Cuts.{AcknowledgesNoOther, IsAllowed, cut_at}
 use Rattle.table_model.specs.Cut.{Cut}
 use Rattle.core_model.specs.Law.{IsAcknowledged}
-use Rattle.core_model.proofs.Allowed.{IsNoOther}
+use Rattle.core_model.proofs.Allowed.{IsNoEnd, IsNoOther}
 use Rattle.core_model.proofs.Growing.{legal_before, standing_more}
 use Rattle.core_model.proofs.Replying.{fits_there}
 use Rattle.core_model.proofs.Sound.{rising, sound_standing}
@@ -99,7 +99,7 @@ end_number b before rest e n start l is =
 
 -- no allowed cut has a smaller number
 newest_at : (b : Basis) (before rest : List Entry) (e : Entry) (n : ℕ) (c : Cut) → IsStart b → IsLegal b (before ++ e ∷ rest) → deed_of e.word ≡ Some (Ended n true) → IsAllowed b (before ++ e ∷ rest) c → n ≤ c.number
-newest_at b before rest e n c start l is (inl p) = let same : n ≡ c.number = all_at (IsNoOther c.number) before rest e p.1 n is in omega arith
+newest_at b before rest e n c start l is (inl p) = absurd (all_at IsNoEnd before rest e p.1 n is)
 newest_at b before rest e n c start l is (inr p) = ⊎_elim in_front (⊎_elim same_place behind) (are_two before rest p.before p.rest e p.began p.there) where
   in_front : (mid : List Entry) × (p.before ≡ before ++ e ∷ mid) → n ≤ c.number
   in_front m =

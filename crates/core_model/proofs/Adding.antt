@@ -6,19 +6,19 @@ use Rattle.record_table.specs.Table.{index_at, place_of}
 use Rattle.names_table.specs.Names.{bytes_of}
 use Rattle.call_journal.specs.declared.deed.TableKind.{TableKind}
 use Rattle.call_journal.specs.declared.deed.TableKind.TheVariants.{Types, Items, Names}
-use Rattle.core_model.specs.declared.passed.Passed.{Passed}
+use Rattle.core_model.specs.declared.state.ReplayState.{ReplayState}
 use Rattle.table_model.specs.Tables.{Tables, item_count, type_count}
 use Rattle.core_model.specs.Cuts.{StartsWith}
 use Rattle.core_model.specs.History.{with_added}
 use Rattle.core_model.specs.Replay.{AreBeginnings, Lists, first_or_next, lists_of}
-use Rattle.core_model.specs.Steps.{behind_add, count_with, place_fits, place_of_index, place_of_offset}
+use Rattle.core_model.specs.Steps.{state_after_add, count_with, place_fits, place_of_index, place_of_offset}
 use Rattle.table_model.proofs.Counting.{place_of-within, some-bytes}
 use Rattle.core_model.proofs.Placing.{IsNameAt, Placed, begun_before, equal, fits_placed, index_at-place, index_of-place, name_at_offset, offset_of-place, place_for, place_of_index-at, place_of_offset-at, placed, placed_count, placed_fits, same_index_test, same_offset_test, take-begun, with_at}
 use Rattle.table_model.proofs.Searching.{found_there}
 use Rattle.table_model.proofs.Strings as string_lemmas
 
 -- the code has counted these lists
-pub record Counts (p : Passed) (lists : Lists) : Type 0 where
+pub record Counts (p : ReplayState) (lists : Lists) : Type 0 where
   pub types : p.types ≡ length lists.types
   pub items : p.items ≡ length lists.items
   pub names : p.names ≡ length lists.names
@@ -56,21 +56,21 @@ lists_empty_name x at e =
 -- What a word shows is what the code lets pass.
 
 -- an add fits, and the code has counted the lists behind it
-pub record AddStep (lists : Lists) (x : Tables) (p : Passed) (table : TableKind) (at : ℕ) (bytes : List ℕ) : Type 0 where
+pub record AddStep (lists : Lists) (x : Tables) (p : ReplayState) (table : TableKind) (at : ℕ) (bytes : List ℕ) : Type 0 where
   pub types : ℕ
   pub items : ℕ
   pub names : ℕ
-  pub fits : behind_add lists p table at ≡ Some (record p { types = types; items = items; names = names })
+  pub fits : state_after_add lists p table at ≡ Some (record p { types = types; items = items; names = names })
   pub counts : Counts (record p { types = types; items = items; names = names }) (lists_of (with_added x table at bytes))
 
-place_passes : (list final : List (List ℕ)) (r : List ℕ) (k count : ℕ) (place : Option ℕ) (to : ℕ → Passed) → count ≡ length list → place ≡ Some k → Placed list final r k
+place_passes : (list final : List (List ℕ)) (r : List ℕ) (k count : ℕ) (place : Option ℕ) (to : ℕ → ReplayState) → count ≡ length list → place ≡ Some k → Placed list final r k
     → cond (place_fits final count place) (Some (to (count_with count place))) None ≡ Some (to (length (with_at list k r)))
 place_passes list final r k count place to same e f =
     ap (λ o. cond (place_fits final count o) (Some (to (count_with count o))) None) e
     ∙ ap (λ b. cond b (Some (to (count_with count (Some k)))) None) (placed_fits list final r k count same f)
     ∙ ap (λ n. Some (to (count_with n (Some k)))) same ∙ ap (λ n. Some (to n)) (placed_count list r k)
 
-add_type : (lists : Lists) (x : Tables) (p : Passed) (at : ℕ) (r : List ℕ) → at ≡ first_or_next x Types r → Counts p (lists_of x) → AreBeginnings (lists_of (with_added x Types at r)) lists → AddStep lists x p Types at r
+add_type : (lists : Lists) (x : Tables) (p : ReplayState) (at : ℕ) (r : List ℕ) → at ≡ first_or_next x Types r → Counts p (lists_of x) → AreBeginnings (lists_of (with_added x Types at r)) lists → AddStep lists x p Types at r
 add_type lists x p at r shows c reached =
     let list = x.types.records in
     let k = place_for list r in
@@ -85,7 +85,7 @@ add_type lists x p at r shows c reached =
       counts = subst (Counts (record p { types = length (with_at list k r) })) (sym e) (record { types = refl; items = c.items; names = c.names });
     }
 
-add_item : (lists : Lists) (x : Tables) (p : Passed) (at : ℕ) (r : List ℕ) → at ≡ first_or_next x Items r → Counts p (lists_of x) → AreBeginnings (lists_of (with_added x Items at r)) lists → AddStep lists x p Items at r
+add_item : (lists : Lists) (x : Tables) (p : ReplayState) (at : ℕ) (r : List ℕ) → at ≡ first_or_next x Items r → Counts p (lists_of x) → AreBeginnings (lists_of (with_added x Items at r)) lists → AddStep lists x p Items at r
 add_item lists x p at r shows c reached =
     let list = x.items.records in
     let k = place_for list r in
@@ -101,11 +101,11 @@ add_item lists x p at r shows c reached =
     }
 
 -- an add of a name, by whether its offset is 0
-abbrev by_name : Lists → Passed → ℕ → Bool → Option Passed
+abbrev by_name : Lists → ReplayState → ℕ → Bool → Option ReplayState
 by_name lists p at b =
     cond b (Some p) (cond (place_fits lists.names p.names (place_of_offset 1 lists.names at)) (Some (record p { names = count_with p.names (place_of_offset 1 lists.names at) })) None)
 
-add_empty_name : (lists : Lists) (x : Tables) (p : Passed) (at : ℕ) → at ≡ first_or_next x Names [] → Counts p (lists_of x) → AddStep lists x p Names at []
+add_empty_name : (lists : Lists) (x : Tables) (p : ReplayState) (at : ℕ) → at ≡ first_or_next x Names [] → Counts p (lists_of x) → AddStep lists x p Names at []
 add_empty_name lists x p at shows c = record {
   types = p.types;
   items = p.items;
@@ -120,7 +120,7 @@ place_within list r = go (place_of list r) refl where
   go None e = omega arith
   go (Some q) e = omega (arith, place_of-within list r q e)
 
-add_some_name : (lists : Lists) (x : Tables) (p : Passed) (at : ℕ) (b : ℕ) (bs : List ℕ) → at ≡ first_or_next x Names (b ∷ bs) → Counts p (lists_of x) → AreBeginnings (lists_of (with_added x Names at (b ∷ bs))) lists
+add_some_name : (lists : Lists) (x : Tables) (p : ReplayState) (at : ℕ) (b : ℕ) (bs : List ℕ) → at ≡ first_or_next x Names (b ∷ bs) → Counts p (lists_of x) → AreBeginnings (lists_of (with_added x Names at (b ∷ bs))) lists
     → AddStep lists x p Names at (b ∷ bs)
 add_some_name lists x p at b bs shows c reached =
     let list = x.names.names in
@@ -142,7 +142,7 @@ add_some_name lists x p at b bs shows c reached =
       counts = subst (Counts (record p { names = length (with_at list k name) })) (sym e) (record { types = c.types; items = c.items; names = refl });
     }
 
-pub add_passes : (lists : Lists) (x : Tables) (p : Passed) (table : TableKind) (at : ℕ) (bytes : List ℕ) → at ≡ first_or_next x table bytes → Counts p (lists_of x) → AreBeginnings (lists_of (with_added x table at bytes)) lists
+pub add_passes : (lists : Lists) (x : Tables) (p : ReplayState) (table : TableKind) (at : ℕ) (bytes : List ℕ) → at ≡ first_or_next x table bytes → Counts p (lists_of x) → AreBeginnings (lists_of (with_added x table at bytes)) lists
     → AddStep lists x p table at bytes
 add_passes lists x p Types at r shows c reached = add_type lists x p at r shows c reached
 add_passes lists x p Items at r shows c reached = add_item lists x p at r shows c reached
@@ -157,14 +157,14 @@ pub record Brought (lists : Lists) (x : Tables) (table : TableKind) (at : ℕ) :
   pub reached : AreBeginnings (lists_of (with_added x table at bytes)) lists
 
 -- a place that the code lets pass
-place_taken : (final : List (List ℕ)) (count : ℕ) (place : Option ℕ) (to q : Passed) → cond (place_fits final count place) (Some to) None ≡ Some q → (k : ℕ) × (place ≡ Some k) × (place_fits final count (Some k) ≡ true)
+place_taken : (final : List (List ℕ)) (count : ℕ) (place : Option ℕ) (to q : ReplayState) → cond (place_fits final count place) (Some to) None ≡ Some q → (k : ℕ) × (place ≡ Some k) × (place_fits final count (Some k) ≡ true)
 place_taken final count None to q e = absurd cc
 place_taken final count (Some k) to q e = go (place_fits final count (Some k)) refl e where
   go : (b : Bool) → place_fits final count (Some k) ≡ b → cond b (Some to) None ≡ Some q → (i : ℕ) × (Some k ≡ Some i) × (place_fits final count (Some i) ≡ true)
   go true fits e = (k, refl, fits)
   go false fits e = absurd cc
 
-found_type : (lists : Lists) (x : Tables) (p q : Passed) (at : ℕ) → Counts p (lists_of x) → AreBeginnings (lists_of x) lists → behind_add lists p Types at ≡ Some q → Brought lists x Types at
+found_type : (lists : Lists) (x : Tables) (p q : ReplayState) (at : ℕ) → Counts p (lists_of x) → AreBeginnings (lists_of x) lists → state_after_add lists p Types at ≡ Some q → Brought lists x Types at
 found_type lists x p q at c reached e =
     let list = x.types.records in
     let place = place_of_index at in
@@ -177,7 +177,7 @@ found_type lists x p q at c reached e =
       reached = subst (λ z. AreBeginnings z lists) (sym (lists_types x at f.0 k.0 is)) (record { types = f.1.begins; items = reached.items; names = reached.names });
     }
 
-found_item : (lists : Lists) (x : Tables) (p q : Passed) (at : ℕ) → Counts p (lists_of x) → AreBeginnings (lists_of x) lists → behind_add lists p Items at ≡ Some q → Brought lists x Items at
+found_item : (lists : Lists) (x : Tables) (p q : ReplayState) (at : ℕ) → Counts p (lists_of x) → AreBeginnings (lists_of x) lists → state_after_add lists p Items at ≡ Some q → Brought lists x Items at
 found_item lists x p q at c reached e =
     let list = x.items.records in
     let place = place_of_index at in
@@ -190,7 +190,7 @@ found_item lists x p q at c reached e =
       reached = subst (λ z. AreBeginnings z lists) (sym (lists_items x at f.0 k.0 is)) (record { types = reached.types; items = f.1.begins; names = reached.names });
     }
 
-found_name : (lists : Lists) (x : Tables) (p q : Passed) (at : ℕ) → Counts p (lists_of x) → AreBeginnings (lists_of x) lists → by_name lists p at false ≡ Some q → Brought lists x Names at
+found_name : (lists : Lists) (x : Tables) (p q : ReplayState) (at : ℕ) → Counts p (lists_of x) → AreBeginnings (lists_of x) lists → by_name lists p at false ≡ Some q → Brought lists x Names at
 found_name lists x p q at c reached e =
     let list = x.names.names in
     let place = place_of_offset 1 lists.names at in
@@ -208,7 +208,7 @@ found_name lists x p q at c reached e =
       reached = subst (λ z. AreBeginnings z lists) (sym (lists_names x at name k.0 f.within is)) (record { types = reached.types; items = reached.items; names = f.begins });
     }
 
-pub add_found : (lists : Lists) (x : Tables) (p q : Passed) (table : TableKind) (at : ℕ) → Counts p (lists_of x) → AreBeginnings (lists_of x) lists → behind_add lists p table at ≡ Some q → Brought lists x table at
+pub add_found : (lists : Lists) (x : Tables) (p q : ReplayState) (table : TableKind) (at : ℕ) → Counts p (lists_of x) → AreBeginnings (lists_of x) lists → state_after_add lists p table at ≡ Some q → Brought lists x table at
 add_found lists x p q Types at c reached e = found_type lists x p q at c reached e
 add_found lists x p q Items at c reached e = found_item lists x p q at c reached e
 add_found lists x p q Names at c reached e = go (at == 0) refl e where

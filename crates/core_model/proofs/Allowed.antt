@@ -1,5 +1,5 @@
 -- The cuts that a crash may leave: how they stay allowed, and what each of them is.
-use Rattle.std.proofs.Common.{◌≡◌, ◌<◌, ◌^◌, ℕ, true, List, [], ◌∷◌, ◌++◌, Some, inl, inr, refl, sym, ap, ◌∙◌, subst, arith}
+use Rattle.std.proofs.Common.{◌≡◌, ◌≢◌, ◌<◌, ◌^◌, ℕ, true, List, [], ◌∷◌, ◌++◌, Some, inl, inr, refl, sym, ap, ◌∙◌, subst, arith}
 use Rattle.std.proofs.lemmas.List.{append_assoc}
 use Rattle.std.proofs.lemmas.List.Elements.{All-nil, All-push}
 use Rattle.turnstile.specs.declared.history.Entry.{Entry}
@@ -10,8 +10,8 @@ use Rattle.call_journal.proofs.Decoding.{is_deed}
 use Rattle.record_table.specs.Table as records
 use Rattle.names_table.specs.Names as strings
 use Rattle.table_model.specs.Tables.{Tables}
-use Rattle.core_model.specs.History.{IsLegal, IsStart, age_of, opened_tables, limited_table}
-use Rattle.core_model.specs.Cuts.{BeganAt, IsAllowed, cut_at, opened}
+use Rattle.core_model.specs.History.{IsLegal, IsStart, opened_tables, limited_table}
+use Rattle.core_model.specs.Cuts.{BeganAt, IsAllowed, cut_at, opened_cut}
 use Rattle.table_model.specs.Cut.{Cut}
 use Rattle.core_model.specs.World.{basis_of}
 use Rattle.core_model.proofs.Answered.{IsWithin, names_of, within_opened}
@@ -22,7 +22,11 @@ use Rattle.core_model.proofs.Sound.{sound_standing}
 abbrev pub IsNoOther : ℕ → Entry → Type 0
 IsNoOther number e = (m : ℕ) → deed_of e.word ≡ Some (Ended m true) → m ≡ number
 
--- a cut stays allowed until another commit is acknowledged
+-- the entry acknowledges no commit
+abbrev pub IsNoEnd : Entry → Type 0
+IsNoEnd e = (m : ℕ) → deed_of e.word ≢ Some (Ended m true)
+
+-- a cut that began stays allowed until another commit is acknowledged
 pub began_more : (b : Basis) (h : List Entry) (c : Cut) (e : Entry) → IsNoOther c.number e → BeganAt b h c → BeganAt b (h ++ e ∷ []) c
 began_more b h c e other p = record {
   before = p.before;
@@ -34,16 +38,17 @@ began_more b h c e other p = record {
   newest = All-push (IsNoOther c.number) p.rest e p.newest other;
 }
 
-pub allowed_more : (b : Basis) (h : List Entry) (c : Cut) (e : Entry) → IsNoOther c.number e → IsAllowed b h c → IsAllowed b (h ++ e ∷ []) c
-allowed_more b h c e other (inl p) = inl (p.0, All-push (IsNoOther c.number) h e p.1 other)
-allowed_more b h c e other (inr p) = inr (began_more b h c e other p)
+-- each cut stays allowed until a commit is acknowledged
+pub allowed_more : (b : Basis) (h : List Entry) (c : Cut) (e : Entry) → IsNoEnd e → IsAllowed b h c → IsAllowed b (h ++ e ∷ []) c
+allowed_more b h c e none (inl p) = inl (p.0, All-push IsNoEnd h e p.1 none)
+allowed_more b h c e none (inr p) = inr (began_more b h c e (λ m is. absurd (none m is)) p)
 
 -- the cut of a commit is that of its first entry
 pub began_here : (b : Basis) (h : List Entry) (number : ℕ) (e : Entry) → deed_of e.word ≡ Some (Began number) → BeganAt b (h ++ e ∷ []) (cut_at b h number)
 began_here b h number e is = record { before = h; began = e; rest = []; there = refl; deed = is; tables = refl; newest = All-nil (IsNoOther number) }
 
-pub allowed_opened : (b : Basis) → IsAllowed b [] (opened b)
-allowed_opened b = inl (refl, All-nil (IsNoOther (age_of b)))
+pub allowed_opened : (b : Basis) → IsAllowed b [] (opened_cut b)
+allowed_opened b = inl (refl, All-nil IsNoEnd)
 
 -- a cut that a file can hold: tables within the limits, and a number of 32 bits
 pub record IsCut (b : Basis) (c : Cut) : Type 0 where
@@ -66,7 +71,7 @@ same_tables b c others w =
     let x = c.tables in
     made (limited_table b x.types.records) x.types (limited_table b x.items.records) x.items (names_of b x.names.names) x.names (sym w.types) (sym w.items) (sym w.names)
 
-pub opens_cut : (b : Basis) (c : Cut) (others : List ℕ) → IsWithin b c.tables → opened (basis_of b c others) ≡ c
+pub opens_cut : (b : Basis) (c : Cut) (others : List ℕ) → IsWithin b c.tables → opened_cut (basis_of b c others) ≡ c
 opens_cut b c others w = ap (λ (x : Tables). record { number = c.number; tables = x }) (same_tables b c others w)
 
 pub opens_start : (b : Basis) (c : Cut) (others : List ℕ) → IsStart b → IsCut b c → IsStart (basis_of b c others)

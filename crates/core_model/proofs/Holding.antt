@@ -12,7 +12,7 @@ use Rattle.call_journal.specs.Words.{deed_of}
 use Rattle.core_model.specs.History.{Fits, IsLegal, Standing, after_entry, standing}
 use Rattle.core_model.specs.Cuts.{BeganAt, IsAllowed}
 use Rattle.table_model.specs.Cut.{Cut}
-use Rattle.core_model.specs.Files.{Commit, DeviceCall, File, MayLeave, Phase, Progress, Which, done, doubt, failed, left, older, pending, progress, resolved, resolving, resolving_sync, settled, sure, switching, switching_sync, sync, write, write_super, writing}
+use Rattle.core_model.specs.Files.{Commit, DeviceCall, File, MayLeave, Phase, Progress, Which, done, doubt, failed, cut_left, older, pending, progress, resolution, resolving, resolving_sync, settled, sure_cut, switching, switching_sync, sync, write, write_super, writing}
 use Rattle.core_model.specs.Passes.{Knowledge, with_view}
 use Rattle.core_model.proofs.Allowed.{allowed_more, began_more}
 use Rattle.core_model.proofs.Growing.{legal_more, standing_more}
@@ -57,8 +57,8 @@ kept_filed b h views c e own fits k = record {
 
 -- while blocks are written, and until the superblock is, the file is settled
 abbrev pub StandsIn : Phase → File → Type 0
-StandsIn writing f = f ≡ settled (sure f)
-StandsIn switching f = f ≡ settled (sure f)
+StandsIn writing f = f ≡ settled (sure_cut f)
+StandsIn switching f = f ≡ settled (sure_cut f)
 StandsIn resolving f = ⊤
 StandsIn resolving_sync f = ⊤
 StandsIn switching_sync f = ⊤
@@ -80,7 +80,7 @@ Agrees b h (Some k) f = IsUnderWay b h k f
 
 -- each cut that a crash may leave is allowed
 abbrev pub IsSafe : Basis → List Entry → File → Type 0
-IsSafe b h f = (which : Which) (c : Cut) → left f which ≡ Some c → IsAllowed b h c
+IsSafe b h f = (which : Which) (c : Cut) → cut_left f which ≡ Some c → IsAllowed b h c
 
 pub safe_more : (b : Basis) (h : List Entry) (e : Entry) (f : File) → ((m : ℕ) → deed_of e.word ≡ Some (Ended m true) → ⊥) → IsSafe b h f → IsSafe b (h ++ e ∷ []) f
 safe_more b h e f other s which c is = allowed_more b h c e (λ m ack. absurd (other m ack)) (s which c is)
@@ -98,7 +98,7 @@ agrees_more b h e (Some k) f other same a = record {
 -- What a device call leaves. The file holds what it held, or the new cut, and is settled on that where the commit is done.
 -- It still holds what it held, unless a sync was done.
 pub record IsProgress (new : Cut) (f : File) (call : DeviceCall) (ok : Bool) (p : Progress) : Type 0 where
-  pub holds : (which : Which) (c : Cut) → left p.file which ≡ Some c → (c ≡ new) ⊎ MayLeave f c
+  pub holds : (which : Which) (c : Cut) → cut_left p.file which ≡ Some c → (c ≡ new) ⊎ MayLeave f c
   pub stands : StandsIn p.phase p.file
   pub finished : p.phase ≡ done → p.file ≡ settled new
   pub stays : ((call ≡ sync) × (ok ≡ true) → ⊥) → (c : Cut) → MayLeave f c → MayLeave p.file c
@@ -108,35 +108,35 @@ same_file : (new : Cut) (f : File) (call : DeviceCall) (ok : Bool) (phase : Phas
 same_file new f call ok phase p stands not_done e =
     subst (IsProgress new f call ok) (same_Some (record { file = f; phase = phase }) p e) (record { holds = λ which c is. inr (which, is); stands = stands; finished = λ d. absurd (not_done d); stays = λ other c may. may })
 
-resolved_file : (new : Cut) (f : File) (p : Progress) → Some (record { file = resolved f; phase = writing }) ≡ Some p → IsProgress new f sync true p
+resolved_file : (new : Cut) (f : File) (p : Progress) → Some (record { file = resolution f; phase = writing }) ≡ Some p → IsProgress new f sync true p
 resolved_file new f p e =
-    subst (IsProgress new f sync true) (same_Some (record { file = resolved f; phase = writing }) p e) (record { holds = go f; stands = plain f; finished = λ d. absurd (cc); stays = λ other c may. absurd (other (refl, refl)) }) where
-      go : (g : File) (which : Which) (c : Cut) → left (resolved g) which ≡ Some c → (c ≡ new) ⊎ MayLeave g c
+    subst (IsProgress new f sync true) (same_Some (record { file = resolution f; phase = writing }) p e) (record { holds = go f; stands = plain f; finished = λ d. absurd (cc); stays = λ other c may. absurd (other (refl, refl)) }) where
+      go : (g : File) (which : Which) (c : Cut) → cut_left (resolution g) which ≡ Some c → (c ≡ new) ⊎ MayLeave g c
       go (settled x) which c is = inr (which, is)
       go (doubt x q) older c is = inr (pending, is)
       go (doubt x q) pending c is = absurd (cc)
 
-      plain : (g : File) → resolved g ≡ settled (sure (resolved g))
+      plain : (g : File) → resolution g ≡ settled (sure_cut (resolution g))
       plain (settled x) = refl
       plain (doubt x q) = refl
 
 -- a file that was settled may now hold the new cut too
-doubted_file : (new : Cut) (f : File) (ok : Bool) (phase : Phase) (p : Progress) → f ≡ settled (sure f) → StandsIn phase (doubt (sure f) new) → (phase ≡ done → ⊥) → Some (record { file = doubt (sure f) new; phase = phase }) ≡ Some p → IsProgress new f write_super ok p
+doubted_file : (new : Cut) (f : File) (ok : Bool) (phase : Phase) (p : Progress) → f ≡ settled (sure_cut f) → StandsIn phase (doubt (sure_cut f) new) → (phase ≡ done → ⊥) → Some (record { file = doubt (sure_cut f) new; phase = phase }) ≡ Some p → IsProgress new f write_super ok p
 doubted_file new f ok phase p plain stands not_done e =
-    subst (IsProgress new f write_super ok) (same_Some (record { file = doubt (sure f) new; phase = phase }) p e) (record { holds = go f; stands = stands; finished = λ d. absurd (not_done d); stays = λ other c may. kept c (subst (λ g. MayLeave g c) plain may) }) where
-      go : (g : File) (which : Which) (c : Cut) → left (doubt (sure g) new) which ≡ Some c → (c ≡ new) ⊎ MayLeave g c
+    subst (IsProgress new f write_super ok) (same_Some (record { file = doubt (sure_cut f) new; phase = phase }) p e) (record { holds = go f; stands = stands; finished = λ d. absurd (not_done d); stays = λ other c may. kept c (subst (λ g. MayLeave g c) plain may) }) where
+      go : (g : File) (which : Which) (c : Cut) → cut_left (doubt (sure_cut g) new) which ≡ Some c → (c ≡ new) ⊎ MayLeave g c
       go g pending c is = inl (sym (same_Some new c is))
       go (settled x) older c is = inr (older, is)
       go (doubt x q) older c is = inr (older, is)
 
-      kept : (c : Cut) → MayLeave (settled (sure f)) c → MayLeave (doubt (sure f) new) c
+      kept : (c : Cut) → MayLeave (settled (sure_cut f)) c → MayLeave (doubt (sure_cut f) new) c
       kept c (older, is) = (older, is)
       kept c (pending, is) = absurd (cc)
 
 settled_file : (new : Cut) (f : File) (p : Progress) → Some (record { file = settled new; phase = done }) ≡ Some p → IsProgress new f sync true p
 settled_file new f p e =
     subst (IsProgress new f sync true) (same_Some (record { file = settled new; phase = done }) p e) (record { holds = go; stands = tt; finished = λ d. refl; stays = λ other c may. absurd (other (refl, refl)) }) where
-      go : (which : Which) (c : Cut) → left (settled new) which ≡ Some c → (c ≡ new) ⊎ MayLeave f c
+      go : (which : Which) (c : Cut) → cut_left (settled new) which ≡ Some c → (c ≡ new) ⊎ MayLeave f c
       go older c is = inl (sym (same_Some new c is))
       go pending c is = absurd (cc)
 

@@ -19,4 +19,6 @@ mod Adding
 mod Leading
 mod Tracing
 mod Showing
-mod Behind
+mod Judging
+mod Idle
+pub mod Open

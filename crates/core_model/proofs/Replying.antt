@@ -16,6 +16,7 @@ use Rattle.table_model.specs.Tables.{Tables, item_count, type_count}
 use Rattle.table_model.specs.Calls.{tables_after}
 use Rattle.core_model.specs.History.{DeedFits, IsAnswered, IsLegal, Standing, after, after_deed, after_entries, after_entry, standing, with_added}
 use Rattle.core_model.specs.Law.{add_to}
+use Rattle.core_model.specs.Legal.{stands_at}
 use Rattle.core_model.proofs.Answered.{added_items, added_names, added_types, is_taken, name_is_taken, table_of_taken}
 use Rattle.core_model.proofs.Growing.{legal_before, standing_more, standing_on}
 use Rattle.table_model.proofs.Records as record_lemmas
@@ -116,3 +117,19 @@ one_index b before rest e table j l second front back d i at first same =
     let still : Gives (after_entries s (d ∷ back)).tables table d.brought i = gives_behind (after_entry s d) back table d.brought i given in
     let here : Gives (after b before) table d.brought i = subst (λ (z : Standing). Gives z.tables table d.brought i) (sym (ap (standing b) at ∙ standing_on b front (d ∷ back))) still in
     given_is_answered (after b before) table e.brought i j (subst (λ z. Gives (after b before) table z i) same here) (fits_there b before rest e (Some (Added table j)) l second)
+
+-- what was brought stands where it was put
+
+gives_there : (x : Tables) (table : TableKind) (bytes : List ℕ) (at : ℕ) → Gives x table bytes at → stands_at x table at ≡ Some bytes
+gives_there x Types r at g = record_lemmas.record_there x.types r at g
+gives_there x Items r at g = record_lemmas.record_there x.items r at g
+gives_there x Names name at g = string_lemmas.name_there x.names name at g
+
+-- it stands there behind any entries
+pub stands : (b : Basis) (before rest : List Entry) (e : Entry) (table : TableKind) (at : ℕ) → IsLegal b (before ++ e ∷ rest) → deed_of e.word ≡ Some (Added table at) → (more : List Entry) → stands_at (after b (before ++ e ∷ more)) table at ≡ Some e.brought
+stands b before rest e table at l is more =
+    let s = standing b before in
+    let given : Gives (after_entry s e).tables table e.brought at =
+    subst (λ o. Gives (after_deed s (caller e) o e.brought).tables table e.brought at) (sym is) (gives_added s.tables table at e.brought (fits_there b before rest e (Some (Added table at)) l is)) in
+    let still : Gives (after_entries s (e ∷ more)).tables table e.brought at = gives_behind (after_entry s e) more table e.brought at given in
+    gives_there (after b (before ++ e ∷ more)) table e.brought at (subst (λ (z : Standing). Gives z.tables table e.brought at) (sym (standing_on b before (e ∷ more))) still)

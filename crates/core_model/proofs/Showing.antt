@@ -1,5 +1,5 @@
 -- The words of a legal history lead from the lists as opened to the lists behind it.
-use Rattle.std.proofs.Common.{◌≡◌, inr, ⊎_elim, ℕ, List, length, Option, Some, None, Ok, refl, sym, ap, ◌∙◌}
+use Rattle.std.proofs.Common.{◌≡◌, ⊎_elim, ℕ, List, length, Option, Some, None, Ok, refl, sym, ap, ◌∙◌}
 use Rattle.std.specs.Option.{unwrap_or}
 use Rattle.leaf_grammar.specs.declared.grammar.Space.TheVariants as leaf
 use Rattle.record_table.specs.Table as records
@@ -15,7 +15,7 @@ use Rattle.call_journal.specs.declared.deed.Deed.{Deed}
 use Rattle.call_journal.specs.declared.deed.Deed.TheVariants.{Added, Asked, Counted, NotGiven, Full, Began, Ended, Underway}
 use Rattle.call_journal.specs.Words.{deed_of}
 use Rattle.table_model.specs.Tables.{Tables, item_count, type_count}
-use Rattle.core_model.specs.History.{DeedFits, IsAnswered, IsRefusedFull, IsLegal, after, standing}
+use Rattle.core_model.specs.History.{DeedFits, IsAnswered, IsRefusedFull, IsLegal, Standing, after, standing}
 use Rattle.core_model.specs.Replay.{DeedShows, HasLimit, LeadsTo, counts_of, first_or_next, lists_of, words_of}
 use Rattle.core_model.proofs.Answered.{is_taken, name_is_taken}
 use Rattle.table_model.proofs.Records as record_lemmas
@@ -46,16 +46,16 @@ full_shows x Names limit.Records size f = absurd f
 full_shows x Names limit.Bytes size f = absurd f
 full_shows x Names limit.Names size f = refl
 
-deed_shows : (b : Basis) (before : List Entry) (c : ℕ) (d : Option Deed) (bytes : List ℕ) → DeedFits (standing b before) c d bytes → DeedShows b before c d bytes
-deed_shows b before c None bytes f = f
-deed_shows b before c (Some (Added table at)) bytes f = answer_shows (after b before) table at bytes f
-deed_shows b before c (Some (Asked table at)) bytes f = f
-deed_shows b before c (Some Counted) bytes f = f
-deed_shows b before c (Some (NotGiven index space table)) bytes f = f
-deed_shows b before c (Some (Full size l table)) bytes f = (f.0, full_shows (after b before) table l size f.1)
-deed_shows b before c (Some (Began number)) bytes f = (f.0, f.1, inr f.2)
-deed_shows b before c (Some (Ended number acknowledged)) bytes f = f
-deed_shows b before c (Some (Underway number)) bytes f = f
+deed_shows : (s : Standing) (c : ℕ) (d : Option Deed) (bytes : List ℕ) → DeedFits s c d bytes → DeedShows s c d bytes
+deed_shows s c None bytes f = f
+deed_shows s c (Some (Added table at)) bytes f = answer_shows s.tables table at bytes f
+deed_shows s c (Some (Asked table at)) bytes f = f
+deed_shows s c (Some Counted) bytes f = f
+deed_shows s c (Some (NotGiven index space table)) bytes f = f
+deed_shows s c (Some (Full size l table)) bytes f = (f.0, full_shows s.tables table l size f.1)
+deed_shows s c (Some (Began number)) bytes f = f
+deed_shows s c (Some (Ended number acknowledged)) bytes f = f
+deed_shows s c (Some (Underway number)) bytes f = f
 
 pub leads : (b : Basis) (h : List Entry) → IsLegal b h → LeadsTo (counts_of b) (words_of h) (lists_of (after b h))
 leads b h l = record {
@@ -63,6 +63,6 @@ leads b h l = record {
   entries = h;
   counts = refl;
   has_words = refl;
-  shown = record { shows = λ before e rest eq. deed_shows b before (caller e) (deed_of e.word) e.brought (l.fits before e rest eq).deed };
+  shown = record { shows = λ before e rest eq. deed_shows (standing b before) (caller e) (deed_of e.word) e.brought (l.fits before e rest eq).deed };
   lists = refl;
 }

@@ -9,9 +9,9 @@ use Rattle.table_model.specs.Cut.{Cut}
 use Rattle.core_model.specs.Entries.{entry_of}
 use Rattle.core_model.specs.Events.{Event, calls_device, ends}
 use Rattle.core_model.specs.Files.{File, Phase, doubt, first_phase, settled, sync, write_super, writing}
-use Rattle.core_model.specs.Law.{next_cut, settling, smooth_commit, writes}
+use Rattle.core_model.specs.Law.{next_cut, settling_calls, smooth_commit, writes}
 use Rattle.core_model.specs.Passes.{Knowledge, is_pass}
-use Rattle.core_model.specs.World.{World, begun, filed, number_now, steps}
+use Rattle.core_model.specs.World.{World, after_beginning, with_entry, number_now, steps}
 use Rattle.core_model.proofs.Committing.{step_begun}
 
 -- a world in which a commit is under way, and no crash has come
@@ -31,7 +31,7 @@ ended_so : (b : Basis) (h : List Entry) (views : ℕ → Knowledge) (c : ℕ) (c
 ended_so b h views c cut zero file = rw (eq-eqb c c refl) (record { history = refl; file = refl })
 ended_so b h views c cut (suc blocks) file = ended_so b h views c cut blocks file
 
-resolved_so : (b : Basis) (h : List Entry) (views : ℕ → Knowledge) (c : ℕ) (cut : Cut) (blocks : ℕ) (file : File) → IsAcknowledging h c cut (steps (under_way b h views c cut (first_phase file) file) (settling file ++ ending blocks c))
+resolved_so : (b : Basis) (h : List Entry) (views : ℕ → Knowledge) (c : ℕ) (cut : Cut) (blocks : ℕ) (file : File) → IsAcknowledging h c cut (steps (under_way b h views c cut (first_phase file) file) (settling_calls file ++ ending blocks c))
 resolved_so b h views c cut blocks (settled x) = ended_so b h views c cut blocks (settled x)
 resolved_so b h views c cut blocks (doubt x p) = ended_so b h views c cut blocks (settled p)
 
@@ -42,16 +42,16 @@ pub record IsSmooth (w : World) (c : ℕ) (v : World) : Type 0 where
 pub smooth : (w : World) (c blocks : ℕ) → w.crash ≡ None → is_pass c ≡ true → w.commit ≡ None → number_now w < 2 ^ 32 - 1 → IsSmooth w c (steps w (smooth_commit w.file blocks c))
 smooth w c blocks up pass idle few = subst (IsSmooth w c) (sym (ap (λ v. steps v rest) (step_begun w c up pass idle few ∙ seen))) (record { history = last.history ∙ append_assoc w.history (e ∷ []) (entry_of c (Ended (number_now w + 1) true) [] ∷ []); file = last.file }) where
   rest : List Event
-  rest = settling w.file ++ ending blocks c
+  rest = settling_calls w.file ++ ending blocks c
 
   e : Entry
   e = entry_of c (Began (number_now w + 1)) []
 
   v : World
-  v = under_way w.basis (w.history ++ e ∷ []) (filed w c e).views c (next_cut w) (first_phase w.file) w.file
+  v = under_way w.basis (w.history ++ e ∷ []) (with_entry w c e).views c (next_cut w) (first_phase w.file) w.file
 
-  seen : begun w c ≡ v
+  seen : after_beginning w c ≡ v
   seen = ap (λ o. record v { crash = o }) up
 
   last : IsAcknowledging (w.history ++ e ∷ []) c (next_cut w) (steps v rest)
-  last = resolved_so w.basis (w.history ++ e ∷ []) (filed w c e).views c (next_cut w) blocks w.file
+  last = resolved_so w.basis (w.history ++ e ∷ []) (with_entry w c e).views c (next_cut w) blocks w.file

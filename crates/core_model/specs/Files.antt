@@ -14,25 +14,25 @@ pub data Which : Type 0 where
   pending : Which
 
 -- the cut that a crash leaves, if the file has it
-abbrev pub left : File → Which → Option Cut
-left (settled x) older = Some x
-left (settled x) pending = None
-left (doubt x p) older = Some x
-left (doubt x p) pending = Some p
+abbrev pub cut_left : File → Which → Option Cut
+cut_left (settled x) older = Some x
+cut_left (settled x) pending = None
+cut_left (doubt x p) older = Some x
+cut_left (doubt x p) pending = Some p
 
 -- a crash may leave this cut
 abbrev pub MayLeave : File → Cut → Type 0
-MayLeave file c = (which : Which) × (left file which ≡ Some c)
+MayLeave file c = (which : Which) × (cut_left file which ≡ Some c)
 
 -- the cut that the file is settled on, or was before it came in doubt
-abbrev pub sure : File → Cut
-sure (settled x) = x
-sure (doubt x p) = x
+abbrev pub sure_cut : File → Cut
+sure_cut (settled x) = x
+sure_cut (doubt x p) = x
 
 -- the file settled on the pending cut
-abbrev pub resolved : File → File
-resolved (settled x) = settled x
-resolved (doubt x p) = settled p
+abbrev pub resolution : File → File
+resolution (settled x) = settled x
+resolution (doubt x p) = settled p
 
 -- Where a commit stands: the pending superblock is written again; that is synced; blocks are written; the
 -- superblock is written; that is synced; and the two ends.
@@ -69,14 +69,14 @@ at_phase file phase = Some (record { file = file; phase = phase })
 abbrev pub progress : Cut → File → Phase → DeviceCall → Bool → Option Progress
 progress new file resolving write_super true = at_phase file resolving_sync
 progress new file resolving write_super false = at_phase file failed
-progress new file resolving_sync sync true = at_phase (resolved file) writing
+progress new file resolving_sync sync true = at_phase (resolution file) writing
 progress new file resolving_sync sync false = at_phase file failed
 progress new file writing write true = at_phase file writing
 progress new file writing write false = at_phase file failed
 progress new file writing sync true = at_phase file switching
 progress new file writing sync false = at_phase file failed
-progress new file switching write_super true = at_phase (doubt (sure file) new) switching_sync
-progress new file switching write_super false = at_phase (doubt (sure file) new) failed
+progress new file switching write_super true = at_phase (doubt (sure_cut file) new) switching_sync
+progress new file switching write_super false = at_phase (doubt (sure_cut file) new) failed
 progress new file switching_sync sync true = at_phase (settled new) done
 progress new file switching_sync sync false = at_phase file failed
 progress new file _ _ _ = None

@@ -13,6 +13,7 @@ use Rattle.call_journal.specs.declared.deed.Limit.TheVariants as limit
 use Rattle.call_journal.specs.declared.deed.Deed.{Deed}
 use Rattle.call_journal.specs.declared.deed.Deed.TheVariants.{Added, Asked, Counted, NotGiven, Full, Began, Ended, Underway}
 use Rattle.call_journal.specs.Words.{deed_of}
+pub use Rattle.core_model.specs.declared.commit.OpenCommit.{OpenCommit}
 use Rattle.table_model.specs.Calls.{are_bytes}
 use Rattle.table_model.specs.Tables.{Tables, WithinLimits, answer_to_record, answer_to_name, item_count, type_count}
 
@@ -53,11 +54,6 @@ opened_tables b = record {
   items = limited_table b b.items;
   names = record { max_bytes = most_name_bytes b; version = names_version b; names = b.names };
 }
-
--- a commit that has begun and has not ended: whose it is, and its number
-pub record OpenCommit : Type 0 where
-  pub caller : ℕ
-  pub number : ℕ
 
 -- How things stand at a place of a history: the tables, the number that the last commit took, and the
 -- commit that has begun and not ended.

@@ -3,6 +3,7 @@ use Rattle.std.specs.Prelude.{◌≡◌, ◌<◌, ◌+◌, ◌-◌, ◌^◌, ℕ
 use Rattle.std.specs.Option.{option_to_list}
 use Rattle.turnstile.specs.declared.history.Entry.{Entry}
 use Rattle.turnstile.specs.declared.history.Basis.{Basis}
+use Rattle.call_journal.specs.declared.deed.Deed.{Deed}
 use Rattle.call_journal.specs.declared.deed.Deed.TheVariants.{Added, Began, Ended}
 use Rattle.call_journal.specs.declared.deed.TableKind.{TableKind}
 use Rattle.call_journal.specs.declared.deed.TableKind.TheVariants.{Types, Items, Names}
@@ -12,8 +13,8 @@ use Rattle.table_model.specs.declared.call.Call.TheVariants.{AddType, AddItem, A
 use Rattle.table_model.specs.Calls.{answer, is_call}
 use Rattle.core_model.specs.Cuts.{cut_at}
 use Rattle.table_model.specs.Cut.{Cut}
-use Rattle.core_model.specs.Entries.{entry_of_call}
-use Rattle.core_model.specs.Events.{Event, begins, calls_device, ends, reopens}
+use Rattle.core_model.specs.Entries.{entry_of, entry_of_call}
+use Rattle.core_model.specs.Events.{Event, begins, calls, calls_device, ends, reopens}
 use Rattle.core_model.specs.Files.{Commit, DeviceCall, File, Phase, doubt, resolving, resolving_sync, settled, switching, switching_sync, sync, write, write_super, writing}
 use Rattle.core_model.specs.History.{IsLegal, IsStart}
 use Rattle.core_model.specs.Passes.{is_pass}
@@ -30,6 +31,11 @@ entries_of w c call = option_to_list (entry_of_call c call (answer (tables_now w
 -- it always holds of a call that a pass may make, while no crash has come
 abbrev pub EachCall : (World → ℕ → Call → Type 0) → Type 0
 EachCall P = Always (λ w. (c : ℕ) (call : Call) → w.crash ≡ None → is_pass c ≡ true → is_call call ≡ true → P w c call)
+
+-- A pass's call always leaves the entry of this deed, whatever it is answered, while no crash has come.
+abbrev pub IsKeptAs : Call → Deed → Type 0
+IsKeptAs call deed =
+    Always (λ w. (c : ℕ) → w.crash ≡ None → is_pass c ≡ true → is_call call ≡ true → (step w (calls c call)).history ≡ w.history ++ entry_of c deed [] ∷ [])
 
 -- it always holds of an event and a pass, while no crash has come
 abbrev pub EachEvent : (World → Event → ℕ → Type 0) → Type 0
@@ -63,9 +69,9 @@ has_call switching_sync sync = true
 has_call _ _ = false
 
 -- the calls that settle a file in doubt
-abbrev pub settling : File → List Event
-settling (settled x) = []
-settling (doubt x p) = calls_device write_super true ∷ calls_device sync true ∷ []
+abbrev pub settling_calls : File → List Event
+settling_calls (settled x) = []
+settling_calls (doubt x p) = calls_device write_super true ∷ calls_device sync true ∷ []
 
 -- so many blocks written
 abbrev pub writes : ℕ → List Event
@@ -75,7 +81,7 @@ writes (suc blocks) = calls_device write true ∷ writes blocks
 -- a pass's commit onto a file, of so many blocks, that meets no failure, with nothing between its events
 abbrev pub smooth_commit : File → ℕ → ℕ → List Event
 smooth_commit file blocks c =
-    begins c ∷ (settling file ++ (writes blocks ++ calls_device sync true ∷ calls_device write_super true ∷ calls_device sync true ∷ ends c ∷ []))
+    begins c ∷ (settling_calls file ++ (writes blocks ++ calls_device sync true ∷ calls_device write_super true ∷ calls_device sync true ∷ ends c ∷ []))
 
 -- it always holds of what a crash left, and of the world once the file is opened again
 abbrev pub AfterCrash : (World → Cut → World → Type 0) → Type 0

@@ -6,5 +6,7 @@ pub mod Files
 pub mod Events
 pub mod World
 pub mod Law
+pub mod Effects
+pub mod Legal
 pub mod Replay
 pub mod Steps

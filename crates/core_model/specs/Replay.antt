@@ -1,5 +1,5 @@
 -- Which journal words are those of a history that leads from the first parts of three final lists to the whole lists.
-use Rattle.std.specs.Prelude.{◌≡◌, ◌≢◌, ◌<◌, ◌+◌, ◌⊎◌, ℕ, List, [], ◌∷◌, ◌++◌, length, take, All, Option, Some, None}
+use Rattle.std.specs.Prelude.{◌≡◌, ◌≢◌, ◌<◌, ◌+◌, ◌⊎◌, ℕ, List, [], ◌∷◌, ◌++◌, length, take, Option, Some}
 use Rattle.std.specs.Option.{unwrap_or}
 use Rattle.record_table.specs.Table as records
 use Rattle.names_table.specs.Names as strings
@@ -11,13 +11,13 @@ use Rattle.call_journal.specs.declared.deed.TableKind.TheVariants.{Types, Items,
 use Rattle.call_journal.specs.declared.deed.Limit.{Limit}
 use Rattle.call_journal.specs.declared.deed.Limit.TheVariants as limit
 use Rattle.call_journal.specs.declared.deed.Deed.{Deed}
-use Rattle.call_journal.specs.declared.deed.Deed.TheVariants.{Added, Full, Began}
+use Rattle.call_journal.specs.declared.deed.Deed.TheVariants.{Added, Full}
 use Rattle.call_journal.specs.Words.{deed_of}
 use Rattle.core_model.specs.declared.verdict.Verdict.{Verdict}
 use Rattle.core_model.specs.declared.verdict.Verdict.TheVariants.{Legal, Illegal}
 use Rattle.table_model.specs.Tables.{Tables, item_count, type_count}
 use Rattle.core_model.specs.Cuts.{StartsWith}
-use Rattle.core_model.specs.History.{DeedFits, after, standing}
+use Rattle.core_model.specs.History.{DeedFits, Standing, after, standing}
 
 -- three lists: types, items and names
 pub record Lists : Type 0 where
@@ -50,24 +50,17 @@ HasLimit table limit.Records = table ≢ Names
 HasLimit table limit.Bytes = table ≢ Names
 HasLimit table limit.Names = table ≡ Names
 
--- no commit began in these entries
-abbrev pub NoneBegan : List Entry → Type 0
-NoneBegan entries = All (λ e. (number : ℕ) → deed_of e.word ≢ Some (Began number)) entries
-
--- What a word shows of its deed's fit behind the entries before it. An answered add shows its index or offset; but not that
--- there was room, nor that what it brought is a name, or a leaf whose fields name records. An add refused as full shows that
--- its table has such a limit; but not that it was met. The first commit does not show that its number is the next. Any other
--- deed shows that it fits.
-abbrev pub DeedShows : Basis → List Entry → ℕ → Option Deed → List ℕ → Type 0
-DeedShows b before c (Some (Added table at)) bytes = at ≡ first_or_next (after b before) table bytes
-DeedShows b before c (Some (Full size limit table)) bytes = (bytes ≡ []) × HasLimit table limit
-DeedShows b before c (Some (Began number)) bytes =
-    (bytes ≡ []) × ((standing b before).under_way ≡ None) × (NoneBegan before ⊎ (number ≡ (standing b before).number + 1))
-DeedShows b before c other bytes = DeedFits (standing b before) c other bytes
+-- What a word shows of its deed's fit where things stand so. An answered add shows its index or offset; but not that there
+-- was room, nor that what it brought is a name, or a leaf whose fields name records. An add refused as full shows that its
+-- table has such a limit; but not that it was met. Any other deed shows that it fits.
+abbrev pub DeedShows : Standing → ℕ → Option Deed → List ℕ → Type 0
+DeedShows s c (Some (Added table at)) bytes = at ≡ first_or_next s.tables table bytes
+DeedShows s c (Some (Full size limit table)) bytes = (bytes ≡ []) × HasLimit table limit
+DeedShows s c other bytes = DeedFits s c other bytes
 
 -- Each word shows that it fits where it stands.
 pub record IsShown (b : Basis) (entries : List Entry) : Type 0 where
-  pub shows : (before : List Entry) (e : Entry) (rest : List Entry) → entries ≡ before ++ e ∷ rest → DeedShows b before (caller e) (deed_of e.word) e.brought
+  pub shows : (before : List Entry) (e : Entry) (rest : List Entry) → entries ≡ before ++ e ∷ rest → DeedShows (standing b before) (caller e) (deed_of e.word) e.brought
 
 -- Some history has these words, from lists with so many types, items and names, and leads to the final lists.
 pub record LeadsTo (start : ℕ × ℕ × ℕ) (words : List ℕ) (final : Lists) : Type 0 where

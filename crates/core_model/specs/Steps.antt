@@ -10,8 +10,8 @@ use Rattle.call_journal.specs.declared.deed.Limit.TheVariants as limit
 use Rattle.call_journal.specs.declared.deed.Deed.{Deed}
 use Rattle.call_journal.specs.declared.deed.Deed.TheVariants.{Added, Asked, Counted, NotGiven, Full, Began, Ended, Underway}
 use Rattle.call_journal.specs.Words.{deed_of}
-use Rattle.core_model.specs.declared.passed.CommitOpen.{CommitOpen}
-use Rattle.core_model.specs.declared.passed.Passed.{Passed}
+use Rattle.core_model.specs.declared.commit.OpenCommit.{OpenCommit}
+use Rattle.core_model.specs.declared.state.ReplayState.{ReplayState}
 use Rattle.core_model.specs.Replay.{Lists}
 
 -- the lists have so many types, items and names
@@ -20,10 +20,9 @@ pub record HasStart (lists : Lists) (start : ℕ × ℕ × ℕ) : Type 0 where
   pub items : start.1 ≤ length lists.items
   pub names : start.2 ≤ length lists.names
 
--- How far the words before a place have come is a `Passed`: how many types, items and names are there, the last number
--- that began, and the commit that has begun and has not ended. At first no number has begun.
-abbrev pub started : ℕ × ℕ × ℕ → Passed
-started start = record { types = start.0; items = start.1; names = start.2; last = None; under_way = None }
+-- The state before the first word: so many types, items and names are there, and no commit has begun.
+abbrev pub first_state : ℕ × ℕ × ℕ → ReplayState
+first_state start = record { types = start.0; items = start.1; names = start.2; last = None; under_way = None }
 
 -- whether a search found this very place
 abbrev pub is_place : ℕ → Option ℕ → Bool
@@ -56,18 +55,18 @@ place_of_offset start [] offset = None
 place_of_offset start (x ∷ names) offset =
     if start == offset then (if length x == 0 then None else Some 0) else option_map (λ place. place + 1) (place_of_offset (start + length x + 1) names offset)
 
--- an answered add, of the table and with the index or offset that it gave
-abbrev pub behind_add : Lists → Passed → TableKind → ℕ → Option Passed
-behind_add lists p Types at =
+-- the state behind an answered add, of the table and with the index or offset that it gave, where it fits
+abbrev pub state_after_add : Lists → ReplayState → TableKind → ℕ → Option ReplayState
+state_after_add lists p Types at =
     let place = place_of_index at in if place_fits lists.types p.types place then Some (record p { types = count_with p.types place }) else None
-behind_add lists p Items at =
+state_after_add lists p Items at =
     let place = place_of_index at in if place_fits lists.items p.items place then Some (record p { items = count_with p.items place }) else None
-behind_add lists p Names at =
+state_after_add lists p Names at =
     if at == 0 then Some p
     else let place = place_of_offset 1 lists.names at in if place_fits lists.names p.names place then Some (record p { names = count_with p.names place }) else None
 
 -- whether an index names no record yet
-abbrev pub names_nothing : Passed → TableKind → ℕ → Bool
+abbrev pub names_nothing : ReplayState → TableKind → ℕ → Bool
 names_nothing p Types index = not (nat_lt index (index_at p.types))
 names_nothing p Items index = not (nat_lt index (index_at p.items))
 names_nothing p Names index = false
@@ -83,44 +82,51 @@ is_limit_of table limit.Records = holds_records table
 is_limit_of table limit.Bytes = holds_records table
 is_limit_of table limit.Names = not (holds_records table)
 
--- whether a number may begin: one more than the last, or any at first
+-- whether a number may begin: one more than the last, or at first any but 0
 abbrev pub is_next : Option ℕ → ℕ → Bool
-is_next None number = true
+is_next None number = not (number == 0)
 is_next (Some last) number = number == last + 1
 
 -- whether this commit of this caller is under way
-abbrev pub is_open : Option CommitOpen → ℕ → ℕ → Bool
+abbrev pub is_open : Option OpenCommit → ℕ → ℕ → Bool
 is_open None caller number = false
 is_open (Some commit) caller number = (commit.caller == caller) && (commit.number == number)
 
 -- whether a commit of this number is under way
-abbrev pub is_open_number : Option CommitOpen → ℕ → Bool
+abbrev pub is_open_number : Option OpenCommit → ℕ → Bool
 is_open_number None number = false
 is_open_number (Some commit) number = commit.number == number
 
--- how far the words have come behind a deed of a caller, where it fits
-abbrev pub behind_deed : Lists → Passed → ℕ → Option Deed → Option Passed
-behind_deed lists p caller None = None
-behind_deed lists p caller (Some (Added table at)) = behind_add lists p table at
-behind_deed lists p caller (Some (Asked table at)) = Some p
-behind_deed lists p caller (Some Counted) = Some p
-behind_deed lists p caller (Some (NotGiven index space table)) = if names_nothing p space index && holds_records table then Some p else None
-behind_deed lists p caller (Some (Full size limit table)) = if is_limit_of table limit then Some p else None
-behind_deed lists p caller (Some (Began number)) =
+-- the state behind the beginning of a caller's commit, and behind its end, where they fit
+abbrev pub state_after_began : ReplayState → ℕ → ℕ → Option ReplayState
+state_after_began p caller number =
     if is_none p.under_way && is_next p.last number
     then Some (record p { last = Some number; under_way = Some (record { caller = caller; number = number }) }) else None
-behind_deed lists p caller (Some (Ended number acknowledged)) = if is_open p.under_way caller number then Some (record p { under_way = None }) else None
-behind_deed lists p caller (Some (Underway number)) = if is_open_number p.under_way number then Some p else None
 
--- how far the words have come behind one more, where it fits
-abbrev pub behind : Lists → Passed → ℕ → Option Passed
-behind lists p word = behind_deed lists p (word / 2 ^ 56) (deed_of word)
+abbrev pub state_after_ended : ReplayState → ℕ → ℕ → Option ReplayState
+state_after_ended p caller number = if is_open p.under_way caller number then Some (record p { under_way = None }) else None
 
--- how far these words come, where each fits
-abbrev pub behind_all : Lists → Passed → List ℕ → Option Passed
-behind_all lists p [] = Some p
-behind_all lists p (word ∷ words) = option_and_then (λ q. behind_all lists q words) (behind lists p word)
+-- the state behind a deed of a caller, where it fits
+abbrev pub state_after_deed : Lists → ReplayState → ℕ → Option Deed → Option ReplayState
+state_after_deed lists p caller None = None
+state_after_deed lists p caller (Some (Added table at)) = state_after_add lists p table at
+state_after_deed lists p caller (Some (Asked table at)) = Some p
+state_after_deed lists p caller (Some Counted) = Some p
+state_after_deed lists p caller (Some (NotGiven index space table)) = if names_nothing p space index && holds_records table then Some p else None
+state_after_deed lists p caller (Some (Full size limit table)) = if is_limit_of table limit then Some p else None
+state_after_deed lists p caller (Some (Began number)) = state_after_began p caller number
+state_after_deed lists p caller (Some (Ended number acknowledged)) = state_after_ended p caller number
+state_after_deed lists p caller (Some (Underway number)) = if is_open_number p.under_way number then Some p else None
+
+-- the state behind one word more, where it fits
+abbrev pub next_state : Lists → ReplayState → ℕ → Option ReplayState
+next_state lists p word = state_after_deed lists p (word / 2 ^ 56) (deed_of word)
+
+-- the state behind these words, where each fits
+abbrev pub state_after : Lists → ReplayState → List ℕ → Option ReplayState
+state_after lists p [] = Some p
+state_after lists p (word ∷ words) = option_and_then (λ q. state_after lists q words) (next_state lists p word)
 
 -- whether the lists that are there are the final ones
-abbrev pub is_end : Lists → Passed → Bool
+abbrev pub is_end : Lists → ReplayState → Bool
 is_end lists p = (p.types == length lists.types) && (p.items == length lists.items) && (p.names == length lists.names)

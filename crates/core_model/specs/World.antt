@@ -7,11 +7,11 @@ use Rattle.call_journal.specs.declared.deed.Deed.TheVariants.{Began, Ended, Unde
 use Rattle.table_model.specs.declared.call.Call.{Call}
 use Rattle.table_model.specs.Tables.{Tables}
 use Rattle.table_model.specs.Calls.{answer, is_call}
-use Rattle.core_model.specs.Cuts.{cut_at, opened}
+use Rattle.core_model.specs.Cuts.{cut_at, opened_cut}
 use Rattle.table_model.specs.Cut.{Cut}
 use Rattle.core_model.specs.Entries.{entry_of, entry_of_call}
 use Rattle.core_model.specs.Events.{Event, asks_commit, begins, calls, calls_device, crashes, dies, ends, reopens}
-use Rattle.core_model.specs.Files.{Commit, DeviceCall, File, Phase, Progress, done, failed, first_phase, left, progress, settled}
+use Rattle.core_model.specs.Files.{Commit, DeviceCall, File, Phase, Progress, done, failed, first_phase, cut_left, progress, settled}
 use Rattle.core_model.specs.History.{after, most_blocks, most_bytes, most_calls, most_name_bytes, most_records, names_version, standing}
 use Rattle.core_model.specs.Passes.{Knowledge, fresh, is_pass, with_view}
 
@@ -26,65 +26,65 @@ pub record World : Type 0 where
 
 -- a file just opened, on which a basis stands
 abbrev pub opened_world : Basis → World
-opened_world b = record { basis = b; history = []; views = fresh; commit = None; file = settled (opened b); crash = None }
+opened_world b = record { basis = b; history = []; views = fresh; commit = None; file = settled (opened_cut b); crash = None }
 
 -- A caller has seen the history that now stands.
-abbrev pub looked : World → ℕ → World
-looked w c = record w { views = with_view w.views c (record { seen = w.history; mine = (w.views c).mine }) }
+abbrev pub with_look : World → ℕ → World
+with_look w c = record w { views = with_view w.views c (record { seen = w.history; mine = (w.views c).mine }) }
 
 -- An entry of a caller stands last in the history. The caller has seen it, and it is one of its calls.
-abbrev pub filed : World → ℕ → Entry → World
-filed w c e = record w {
+abbrev pub with_entry : World → ℕ → Entry → World
+with_entry w c e = record w {
   history = w.history ++ e ∷ [];
   views = with_view w.views c (record { seen = w.history ++ e ∷ []; mine = (w.views c).mine ++ e ∷ [] });
 }
 
-abbrev pub filed_or_looked : World → ℕ → Option Entry → World
-filed_or_looked w c None = looked w c
-filed_or_looked w c (Some e) = filed w c e
+abbrev pub with_entry_or_look : World → ℕ → Option Entry → World
+with_entry_or_look w c None = with_look w c
+with_entry_or_look w c (Some e) = with_entry w c e
 
 -- the tables as they stand
 abbrev pub tables_now : World → Tables
 tables_now w = after w.basis w.history
 
 -- a call, answered by the tables as they stand
-abbrev pub called : World → ℕ → Call → World
-called w c call = filed_or_looked w c (entry_of_call c call (answer (tables_now w) call))
+abbrev pub after_call : World → ℕ → Call → World
+after_call w c call = with_entry_or_look w c (entry_of_call c call (answer (tables_now w) call))
 
 -- A commit that is asked for and does not begin. It is refused while one is under way, and has an entry. While none is, it
 -- was refused for a limit or wanted memory: it has no entry, and the pass has seen the history.
-abbrev pub refused_commit : World → ℕ → Option Commit → World
-refused_commit w c None = looked w c
-refused_commit w c (Some commit) = filed w c (entry_of c (Underway commit.cut.number) [])
+abbrev pub after_refusal : World → ℕ → Option Commit → World
+after_refusal w c None = with_look w c
+after_refusal w c (Some commit) = with_entry w c (entry_of c (Underway commit.cut.number) [])
 
 -- the last number that a commit took
 abbrev pub number_now : World → ℕ
 number_now w = (standing w.basis w.history).number
 
 -- a commit of the tables as they stand, under the next number
-abbrev pub begun : World → ℕ → World
-begun w c = record (filed w c (entry_of c (Began (number_now w + 1)) [])) {
+abbrev pub after_beginning : World → ℕ → World
+after_beginning w c = record (with_entry w c (entry_of c (Began (number_now w + 1)) [])) {
   commit = Some (record { caller = c; cut = cut_at w.basis w.history (number_now w + 1); phase = first_phase w.file });
 }
 
 -- What a device call of the commit makes of the world. A call that its phase does not have changes nothing.
-abbrev pub progressed : World → Commit → Option Progress → World
-progressed w commit None = w
-progressed w commit (Some p) = record w { file = p.file; commit = Some (record commit { phase = p.phase }) }
+abbrev pub with_progress : World → Commit → Option Progress → World
+with_progress w commit None = w
+with_progress w commit (Some p) = record w { file = p.file; commit = Some (record commit { phase = p.phase }) }
 
-abbrev pub worked : World → Option Commit → DeviceCall → Bool → World
-worked w None call ok = w
-worked w (Some commit) call ok = progressed w commit (progress commit.cut w.file commit.phase call ok)
+abbrev pub after_device_call : World → Option Commit → DeviceCall → Bool → World
+after_device_call w None call ok = w
+after_device_call w (Some commit) call ok = with_progress w commit (progress commit.cut w.file commit.phase call ok)
 
 -- the end of a commit that is done or has failed
-abbrev pub ended_in : World → Commit → Phase → World
-ended_in w commit done = record (filed w commit.caller (entry_of commit.caller (Ended commit.cut.number true) [])) { commit = None }
-ended_in w commit failed = record (filed w commit.caller (entry_of commit.caller (Ended commit.cut.number false) [])) { commit = None }
-ended_in w commit other = w
+abbrev pub after_end_in : World → Commit → Phase → World
+after_end_in w commit done = record (with_entry w commit.caller (entry_of commit.caller (Ended commit.cut.number true) [])) { commit = None }
+after_end_in w commit failed = record (with_entry w commit.caller (entry_of commit.caller (Ended commit.cut.number false) [])) { commit = None }
+after_end_in w commit other = w
 
-abbrev pub ended : World → ℕ → Option Commit → World
-ended w c None = w
-ended w c (Some commit) = if commit.caller == c then ended_in w commit commit.phase else w
+abbrev pub after_end : World → ℕ → Option Commit → World
+after_end w c None = w
+after_end w c (Some commit) = if commit.caller == c then after_end_in w commit commit.phase else w
 
 -- A basis on a cut, with the same limits. The file that is opened tells the numbers behind these.
 abbrev pub basis_of : Basis → Cut → List ℕ → Basis
@@ -97,13 +97,13 @@ basis_of b c others = record {
 
 -- the step of an event, where no crash has come
 abbrev pub run : World → Event → World
-run w (calls c call) = if is_pass c && is_call call then called w c call else w
-run w (asks_commit c) = if is_pass c then refused_commit w c w.commit else w
-run w (begins c) = if is_pass c && is_none w.commit && nat_lt (number_now w) (2 ^ 32 - 1) then begun w c else w
-run w (calls_device call ok) = worked w w.commit call ok
-run w (ends c) = ended w c w.commit
+run w (calls c call) = if is_pass c && is_call call then after_call w c call else w
+run w (asks_commit c) = if is_pass c then after_refusal w c w.commit else w
+run w (begins c) = if is_pass c && is_none w.commit && nat_lt (number_now w) (2 ^ 32 - 1) then after_beginning w c else w
+run w (calls_device call ok) = after_device_call w w.commit call ok
+run w (ends c) = after_end w c w.commit
 run w (dies c) = w
-run w (crashes which) = record w { crash = left w.file which }
+run w (crashes which) = record w { crash = cut_left w.file which }
 run w (reopens others) = w
 
 -- After a crash nothing happens but that the file is opened again.

@@ -96,7 +96,7 @@ static GOOD: [u64; 17] = [
 ];
 
 // Another word at a place of it, and the verdict.
-static CHANGED: [(usize, u64, Verdict); 31] = [
+static CHANGED: [(usize, u64, Verdict); 33] = [
     // the same history, and one that gives the second type early
     (0, 0x0001000000001000, Verdict::Legal),
     (1, 0x0101000000001001, Verdict::Legal),
@@ -110,6 +110,9 @@ static CHANGED: [(usize, u64, Verdict); 31] = [
     (2, 0x000C000000000002, Verdict::Illegal { at: 2 }),
     (3, 0x020C000000000003, Verdict::Illegal { at: 3 }),
     (3, 0x020A000000000003, Verdict::Illegal { at: 3 }),
+    // a first commit of another number, and of 0, which is behind no file's
+    (2, 0x000A000000000001, Verdict::Illegal { at: 3 }),
+    (2, 0x000A000000000000, Verdict::Illegal { at: 2 }),
     // a commit ended by another caller, and under another number; one that faults
     (6, 0x010B000100000002, Verdict::Illegal { at: 6 }),
     (6, 0x000B000100000003, Verdict::Illegal { at: 6 }),

@@ -1,3 +1,4 @@
 pub mod Fields
 pub mod Visits
 pub mod Seen
+pub mod Places

@@ -165,6 +165,6 @@ fn visit_run<V: Visit>(space: Space, bytes: &[u8], from: usize, count: u32, visi
 {
     for k in 0..count {
         let at = from + 4 * k as usize;
-        visit.field(space, at as u32, read(Width::Word, bytes, at));
+        visit.field(space, at as u32, read(Width::FourBytes, bytes, at));
     }
 }

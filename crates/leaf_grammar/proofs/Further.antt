@@ -5,7 +5,7 @@ use Rattle.leaf_words.specs.declared.NumericFault.{NumericFault}
 use Rattle.leaf_words.specs.declared.NumericFault.TheVariants.{Short, Unknown}
 use Rattle.leaf_words.specs.Words.{numeric_end, tail_end, tail_size, text_size}
 use Rattle.byteorder.specs.Endian.{little_number}
-use Rattle.leaf_grammar.specs.declared.grammar.Width.TheVariants.{Half}
+use Rattle.leaf_grammar.specs.declared.grammar.Width.TheVariants.{TwoBytes}
 use Rattle.leaf_grammar.specs.declared.grammar.Form.{Form}
 use Rattle.leaf_grammar.specs.declared.grammar.Form.TheVariants as form
 use Rattle.leaf_grammar.specs.declared.grammar.Part.{Part}
@@ -27,7 +27,7 @@ pub else_ok : {A E : Type 0} (b : Bool) (bad : E) (x : Result A E) (y : A) → c
 else_ok true bad x y h = absurd (cc)
 else_ok false bad x y h = h
 
-else_is : {A E : Type 0} (b : Bool) (bad : E) (x y : A) → cond b (Err bad) (Ok x) ≡ Ok y → x ≡ y
+pub else_is : {A E : Type 0} (b : Bool) (bad : E) (x y : A) → cond b (Err bad) (Ok x) ≡ Ok y → x ≡ y
 else_is true bad x y h = absurd (cc)
 else_is false bad x y h = cc
 
@@ -42,7 +42,7 @@ numeric_on : (r : List ℕ) (at end : ℕ) → numeric_end r at ≡ Ok end → a
 numeric_on r at end h =
     let e = tail_on r (at + 2) end (tail_size (little_number 2 (drop at r))) (else_ok (ltb (length r) (at + 2)) Short _ end h) in omega arith
 
-behind_numeric_on : (r : List ℕ) (at end : ℕ) (n : Result ℕ NumericFault) → behind_numeric r at n ≡ Ok end → n ≡ Ok end
+pub behind_numeric_on : (r : List ℕ) (at end : ℕ) (n : Result ℕ NumericFault) → behind_numeric r at n ≡ Ok end → n ≡ Ok end
 behind_numeric_on r at end (Ok x) h = cc
 behind_numeric_on r at end (Err Short) h = absurd (cc)
 behind_numeric_on r at end (Err Unknown) h = absurd (cc)
@@ -90,8 +90,8 @@ parts_on (part ∷ parts) r c end h =
 method_further : (r : List ℕ) (at end : ℕ) → parts_end method_parts r (cursor at 0) ≡ Ok end → at < end
 unfolding method_parts past
 method_further r at end h =
-    let b = bind_ok (bytes_on 2 r at >>= λ from. Ok (cursor from (number_at Half r at))) (parts_end (u16 ∷ type_index ∷ vtable_offset ∷ []) r) end h in
-    let a = bind_ok (bytes_on 2 r at) (λ from. Ok (cursor from (number_at Half r at))) b.0 b.1 in
+    let b = bind_ok (bytes_on 2 r at >>= λ from. Ok (cursor from (number_at TwoBytes r at))) (parts_end (u16 ∷ type_index ∷ vtable_offset ∷ []) r) end h in
+    let a = bind_ok (bytes_on 2 r at) (λ from. Ok (cursor from (number_at TwoBytes r at))) b.0 b.1 in
     let e : a.0 ≡ b.0.at = cc in
     omega (arith, bytes_on-is 2 r at a.0 a.1, parts_on (u16 ∷ type_index ∷ vtable_offset ∷ []) r b.0 end b.2)
 
@@ -107,11 +107,22 @@ pad_further r at (suc n) got h =
     let e : b.0 ≡ got.at = cc in
     omega (arith, bytes_on-is (suc n) r at b.0 b.1)
 
-either_further : (b : Bool) (r : List ℕ) (at n : ℕ) (got : Row) → cond b (bytes_on 2 r at >>= λ end. member_row (parts_of_member (number_at Half r at)) at) (pad_row r at n) ≡ Ok got → at < got.at
+either_further : (b : Bool) (r : List ℕ) (at n : ℕ) (got : Row) → cond b (bytes_on 2 r at >>= λ end. member_row (parts_of_member (number_at TwoBytes r at)) at) (pad_row r at n) ≡ Ok got → at < got.at
 either_further true r at n got h =
-    let b = bind_ok (bytes_on 2 r at) (λ end. member_row (parts_of_member (number_at Half r at)) at) got h in
-    member_further r at (parts_of_member (number_at Half r at)) got b.2
+    let b = bind_ok (bytes_on 2 r at) (λ end. member_row (parts_of_member (number_at TwoBytes r at)) at) got h in
+    member_further r at (parts_of_member (number_at TwoBytes r at)) got b.2
 either_further false r at n got h = pad_further r at n got h
+
+-- the parts of a member stand behind its place
+pub members_at_further : (r : List ℕ) (at : ℕ) (got : Row) → row_at Members r at ≡ Ok got → at < got.at
+unfolding row_at
+members_at_further r at got h = either_further (ltb (slice_index r at) 0xF0) r at (slice_index r at - 0xF0) got h
+
+-- the parts of a row stand at its place or behind it
+pub row_at_on : (rows : Rows) (r : List ℕ) (at : ℕ) (got : Row) → row_at rows r at ≡ Ok got → at ≤ got.at
+unfolding row_at
+row_at_on Methods r at got h = let e : at ≡ got.at = cc in omega arith
+row_at_on Members r at got h = omega (arith, members_at_further r at got h)
 
 -- a row has at least one byte
 pub row_further : (rows : Rows) (r : List ℕ) (at end : ℕ) → row_end rows r at ≡ Ok end → at < end

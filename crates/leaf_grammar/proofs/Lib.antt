@@ -1,3 +1,9 @@
 pub mod Further
 pub mod Finding
 pub mod Rooms
+pub mod TextLemmas
+pub mod TagLemmas
+pub mod Standing
+pub mod Spelling
+pub mod Reading
+pub mod Leaves

@@ -2,7 +2,7 @@
 use Rattle.std.specs.Prelude.{ℕ, ◌==◌, List, [], ◌∷◌, Option, Some, None, if◌then◌else◌}
 use Rattle.leaf_grammar.specs.declared.grammar.Space.{Space}
 use Rattle.leaf_grammar.specs.declared.grammar.Space.TheVariants.{Types, Items}
-use Rattle.leaf_grammar.specs.declared.grammar.Width.TheVariants.{Half, Word}
+use Rattle.leaf_grammar.specs.declared.grammar.Width.TheVariants.{TwoBytes, FourBytes}
 use Rattle.leaf_grammar.specs.declared.grammar.Item.TheVariants as item
 use Rattle.leaf_grammar.specs.declared.grammar.Form.TheVariants.{Index, Number, Numeric, Text, List as Counted}
 use Rattle.leaf_grammar.specs.declared.grammar.Condition.TheVariants.{ToMember, Introducing, UniquelyNamed}
@@ -30,10 +30,10 @@ u32 = Always (Number 4)
 
 -- attributes of 2 and 4 bytes
 abbrev pub flags16 : Part
-flags16 = Attributes Half
+flags16 = Attributes TwoBytes
 
 abbrev pub flags32 : Part
-flags32 = Attributes Word
+flags32 = Attributes FourBytes
 
 abbrev pub numeric : Part
 numeric = Always Numeric
@@ -43,19 +43,19 @@ text = Always Text
 
 -- a list behind the number of its items
 abbrev pub types32 : Part
-types32 = Always (Counted Word (item.Index Types))
+types32 = Always (Counted FourBytes (item.Index Types))
 
 abbrev pub items16 : Part
-items16 = Always (Counted Half (item.Index Items))
+items16 = Always (Counted TwoBytes (item.Index Items))
 
 abbrev pub items32 : Part
-items32 = Always (Counted Word (item.Index Items))
+items32 = Always (Counted FourBytes (item.Index Items))
 
 abbrev pub bytes32 : Part
-bytes32 = Always (Counted Word item.Byte)
+bytes32 = Always (Counted FourBytes item.Byte)
 
 abbrev pub half_bytes16 : Part
-half_bytes16 = Always (Counted Half item.HalfByte)
+half_bytes16 = Always (Counted TwoBytes item.HalfByte)
 
 -- of a pointer to a member: its class, and how it is represented
 abbrev pub class_of_member : Part

@@ -1,12 +1,12 @@
 -- Which records are leaves, and where a record that is none is first wrong.
-use Rattle.std.specs.Prelude.{ℕ, zero, suc, ◌+◌, ◌-◌, ◌*◌, ◌/◌, ◌%◌, ◌==◌, nat_lt, Bool, ◌&&◌, ◌||◌, not, List, [], ◌∷◌, length, drop, slice_index, Option, Some, None, Result, Ok, Err, if◌then◌else◌}
+use Rattle.std.specs.Prelude.{ℕ, zero, suc, ◌+◌, ◌-◌, ◌*◌, ◌/◌, ◌%◌, ◌^◌, bit_and, ◌==◌, nat_lt, Bool, ◌&&◌, ◌||◌, not, List, [], ◌∷◌, length, drop, slice_index, Option, Some, None, Result, Ok, Err, if◌then◌else◌}
 use Rattle.byteorder.specs.Endian.{little_number}
 use Rattle.leaf_words.specs.declared.NumericFault.{NumericFault}
 use Rattle.leaf_words.specs.declared.NumericFault.TheVariants.{Short, Unknown}
 use Rattle.leaf_words.specs.Words.{numeric_end, end_of_text}
 use Rattle.leaf_grammar.specs.declared.grammar.Space.{Space}
 use Rattle.leaf_grammar.specs.declared.grammar.Width.{Width}
-use Rattle.leaf_grammar.specs.declared.grammar.Width.TheVariants.{Half, Word}
+use Rattle.leaf_grammar.specs.declared.grammar.Width.TheVariants.{TwoBytes, FourBytes}
 use Rattle.leaf_grammar.specs.declared.grammar.Item.{Item}
 use Rattle.leaf_grammar.specs.declared.grammar.Item.TheVariants as item
 use Rattle.leaf_grammar.specs.declared.grammar.Form.{Form}
@@ -52,8 +52,8 @@ abbrev pub ◌>>=◌ : {A B : Type 0} → Result A Malformed → (A → Result B
 
 -- the number of a width that stands at a place
 abbrev pub size_of : Width → ℕ
-size_of Half = 2
-size_of Word = 4
+size_of TwoBytes = 2
+size_of FourBytes = 4
 
 abbrev pub number_at : Width → List ℕ → ℕ → ℕ
 number_at width r at = little_number (size_of width) (drop at r)
@@ -87,13 +87,20 @@ form_end form.Text r at = behind_text at (end_of_text r at)
 form_end (form.List width items) r at =
     bytes_on (size_of width) r at >>= bytes_on (items_size items (number_at width r at)) r
 
+-- whether one of the bits of a mask is set, and the three bits from one on, as a number
+abbrev pub has_bits : ℕ → ℕ → Bool
+has_bits attributes mask = not (bit_and attributes mask == 0)
+
+abbrev pub three_bits : ℕ → ℕ → ℕ
+three_bits attributes from = bit_and (attributes / 2 ^ from) 7
+
 -- What attributes say. Bits 5 to 7 of a pointer's are 2 in one to a data member and 3 in one to a
 -- member function. Bits 2 to 4 of a method's are 4 in one that introduces a virtual one and 6 in one
 -- that introduces a pure one. Bit 9 of a tag's tells that it has a unique name.
 abbrev pub says : Condition → ℕ → Bool
-says ToMember attributes = (attributes / 32 % 8 == 2) || (attributes / 32 % 8 == 3)
-says Introducing attributes = (attributes / 4 % 8 == 4) || (attributes / 4 % 8 == 6)
-says UniquelyNamed attributes = attributes / 512 % 2 == 1
+says ToMember attributes = (three_bits attributes 5 == 2) || (three_bits attributes 5 == 3)
+says Introducing attributes = (three_bits attributes 2 == 4) || (three_bits attributes 2 == 6)
+says UniquelyNamed attributes = has_bits attributes 0x200
 
 abbrev pub cursor : ℕ → ℕ → Cursor
 cursor at attributes = record { at = at; attributes = attributes }
@@ -134,7 +141,7 @@ pad_row r at n = if n == 0 then Err (wrong_member at) else bytes_on n r at >>= �
 unfoldable pub row_at : Rows → List ℕ → ℕ → Result Row Malformed
 row_at Methods r at = Ok (row method_parts at)
 row_at Members r at =
-    if nat_lt (slice_index r at) 0xF0 then (bytes_on 2 r at >>= λ end. member_row (parts_of_member (number_at Half r at)) at)
+    if nat_lt (slice_index r at) 0xF0 then (bytes_on 2 r at >>= λ end. member_row (parts_of_member (number_at TwoBytes r at)) at)
     else pad_row r at (slice_index r at - 0xF0)
 
 -- the place behind the row that stands at a place

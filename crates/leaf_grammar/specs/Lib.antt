@@ -2,3 +2,6 @@ pub mod Kinds
 pub mod Leaf
 pub mod Rows
 pub mod Found
+pub mod Tag
+pub mod Tags
+pub mod Spelled

@@ -8,10 +8,8 @@ pub enum Space {
 /// The width of a number that is read.
 #[derive(Clone, Copy, Debug)]
 pub enum Width {
-    /// Two bytes.
-    Half,
-    /// Four bytes.
-    Word,
+    TwoBytes,
+    FourBytes,
 }
 
 /// What a counted list holds.

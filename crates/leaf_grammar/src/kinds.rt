@@ -14,23 +14,23 @@ const N16: Part = Part::Always(Form::Number(2));
 
 const N32: Part = Part::Always(Form::Number(4));
 
-const FLAGS16: Part = Part::Attributes(Width::Half);
+const FLAGS16: Part = Part::Attributes(Width::TwoBytes);
 
-const FLAGS32: Part = Part::Attributes(Width::Word);
+const FLAGS32: Part = Part::Attributes(Width::FourBytes);
 
 const NUMERIC: Part = Part::Always(Form::Numeric);
 
 const TEXT: Part = Part::Always(Form::Text);
 
-const TYPES32: Part = Part::Always(Form::List(Width::Word, Item::Index(Space::Types)));
+const TYPES32: Part = Part::Always(Form::List(Width::FourBytes, Item::Index(Space::Types)));
 
-const ITEMS16: Part = Part::Always(Form::List(Width::Half, Item::Index(Space::Items)));
+const ITEMS16: Part = Part::Always(Form::List(Width::TwoBytes, Item::Index(Space::Items)));
 
-const ITEMS32: Part = Part::Always(Form::List(Width::Word, Item::Index(Space::Items)));
+const ITEMS32: Part = Part::Always(Form::List(Width::FourBytes, Item::Index(Space::Items)));
 
-const BYTES32: Part = Part::Always(Form::List(Width::Word, Item::Byte));
+const BYTES32: Part = Part::Always(Form::List(Width::FourBytes, Item::Byte));
 
-const HALF_BYTES16: Part = Part::Always(Form::List(Width::Half, Item::HalfByte));
+const HALF_BYTES16: Part = Part::Always(Form::List(Width::TwoBytes, Item::HalfByte));
 
 // .. and those that the attributes before them decide.
 const CLASS_OF_MEMBER: Part = Part::Where(Condition::ToMember, Form::Index(Space::Types));

@@ -37,9 +37,9 @@ pub fn holds(condition: Condition, attributes: u32) -> bool
     ensures { result ≡ says condition attributes }
 {
     match condition {
-        Condition::ToMember => attributes / 32 % 8 == 2 || attributes / 32 % 8 == 3,
-        Condition::Introducing => attributes / 4 % 8 == 4 || attributes / 4 % 8 == 6,
-        Condition::UniquelyNamed => attributes / 512 % 2 == 1,
+        Condition::ToMember => matches!((attributes >> 5) & 7, 2 | 3),
+        Condition::Introducing => matches!((attributes >> 2) & 7, 4 | 6),
+        Condition::UniquelyNamed => attributes & 0x200 != 0,
     }
 }
 
@@ -126,8 +126,8 @@ pub fn width_bytes(width: Width) -> usize
     ensures { result ≡ size_of width }
 {
     match width {
-        Width::Half => 2,
-        Width::Word => 4,
+        Width::TwoBytes => 2,
+        Width::FourBytes => 4,
     }
 }
 
@@ -149,8 +149,8 @@ pub fn read(width: Width, bytes: &[u8], at: usize) -> u32
     ensures { result ≡ number_at width bytes.now at }
 {
     match width {
-        Width::Half => u32::from(LittleEndian::read_u16(&bytes[at..])),
-        Width::Word => LittleEndian::read_u32(&bytes[at..]),
+        Width::TwoBytes => u32::from(LittleEndian::read_u16(&bytes[at..])),
+        Width::FourBytes => LittleEndian::read_u32(&bytes[at..]),
     }
 }
 

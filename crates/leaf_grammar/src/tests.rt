@@ -3,7 +3,7 @@ use std::test::Fail;
 
 // Records of every kind and member, written out by hand from the tables of the public format, and where
 // their content ends or what is wrong with them and where.
-static RECORDS: [(Space, &[u8], Result<usize, (u32, u8)>); 91] = [
+static RECORDS: [(Space, &[u8], Result<usize, (u32, u8)>); 97] = [
     (Space::Types, b"\x06\x00\x0A\x00\x03\x00\x10\x01", Ok(8)),
     (
         Space::Types,
@@ -156,6 +156,36 @@ static RECORDS: [(Space, &[u8], Result<usize, (u32, u8)>); 91] = [
         Space::Types,
         b"\x0E\x00\x06\x15\x00\x00\x00\x00\x00\x10\x00\x00\x04\x80\x01\x00",
         Err((14, Malformed::SHORT)),
+    ),
+    (
+        Space::Types,
+        b"\x1E\x00\x04\x15\x01\x00\x00\x02\x00\x10\x00\x00\x01\x10\x00\x00\x02\x10\x00\x00\x04\x00\x43\x00\x2E\x3F\x41\x56\x43\x40\x40\x00",
+        Ok(32),
+    ),
+    (
+        Space::Types,
+        b"\x1E\x00\x04\x15\x01\x00\x00\x02\x00\x10\x00\x00\x01\x10\x00\x00\x02\x10\x00\x00\x04\x00\x43\x00\x2E\x3F\x41\x56\x43\x40\x40\x40",
+        Err((24, Malformed::TEXT)),
+    ),
+    (
+        Space::Types,
+        b"\x1E\x00\x19\x15\x01\x00\x00\x02\x00\x10\x00\x00\x01\x10\x00\x00\x02\x10\x00\x00\x04\x00\x49\x00\x2E\x3F\x41\x55\x49\x40\x40\x00",
+        Ok(32),
+    ),
+    (
+        Space::Types,
+        b"\x1E\x00\x19\x15\x01\x00\x00\x02\x00\x10\x00\x00\x01\x10\x00\x00\x02\x10\x00\x00\x04\x00\x49\x00\x2E\x3F\x41\x55\x49\x40\x40\x40",
+        Err((24, Malformed::TEXT)),
+    ),
+    (
+        Space::Types,
+        b"\x16\x00\x06\x15\x01\x00\x00\x02\x00\x10\x00\x00\x04\x00\x55\x00\x2E\x3F\x41\x54\x55\x40\x40\x00",
+        Ok(24),
+    ),
+    (
+        Space::Types,
+        b"\x16\x00\x06\x15\x01\x00\x00\x02\x00\x10\x00\x00\x04\x00\x55\x00\x2E\x3F\x41\x54\x55\x40\x40\x40",
+        Err((16, Malformed::TEXT)),
     ),
     (
         Space::Types,
@@ -486,4 +516,70 @@ fn long_records(rt: HostRuntime) -> Result<(), Fail> {
         })
     );
     Ok(())
+}
+
+// What stands in a tag: whether it is a forward reference and within a function, its name, its unique name.
+type Stands = (bool, bool, &'static [u8], Option<&'static [u8]>);
+
+static TAGS: [(&[u8], Option<Stands>); 9] = [
+    // a class with both texts
+    (
+        b"\x1E\x00\x04\x15\x01\x00\x00\x02\x00\x10\x00\x00\x00\x00\x00\x00\x00\x00\x00\x00\x04\x00\x43\x00\x2E\x3F\x41\x56\x43\x40\x40\x00",
+        Some((false, false, b"C", Some(b".?AVC@@"))),
+    ),
+    // a structure with a name alone, within a function
+    (
+        b"\x16\x00\x05\x15\x01\x00\x00\x01\x00\x10\x00\x00\x00\x00\x00\x00\x00\x00\x00\x00\x04\x00\x53\x00",
+        Some((false, true, b"S", None)),
+    ),
+    // an interface that is a forward reference, with an empty unique name
+    (
+        b"\x1A\x00\x19\x15\x01\x00\x80\x02\x00\x10\x00\x00\x00\x00\x00\x00\x00\x00\x00\x00\x04\x00\x49\x00\x00\xF3\xF2\xF1",
+        Some((true, false, b"I", Some(b""))),
+    ),
+    // a union with a long size and an empty name
+    (
+        b"\x1A\x00\x06\x15\x01\x00\x00\x03\x00\x10\x00\x00\x04\x80\x01\x02\x03\x04\x00\x2E\x3F\x41\x54\x55\x40\x40\x00\xF1",
+        Some((false, true, b"", Some(b".?ATU@@"))),
+    ),
+    // an enum, with all other bits set
+    (
+        b"\x12\x00\x07\x15\x01\x00\x7F\xFC\x74\x00\x00\x00\x00\x10\x00\x00\x45\x00\xF2\xF1",
+        Some((false, false, b"E", None)),
+    ),
+    // a modifier
+    (b"\x0A\x00\x01\x10\x74\x00\x00\x00\x01\x00\xF2\xF1", None),
+    // an item
+    (b"\x0A\x00\x05\x16\x00\x00\x00\x00\x61\x00\xF2\xF1", None),
+    // a structure that is no leaf
+    (
+        b"\x1E\x00\x05\x15\x01\x00\x00\x02\x00\x10\x00\x00\x00\x00\x00\x00\x00\x00\x00\x00\x04\x00\x53\x53\x53\x53\x53\x53\x53\x00\xF2\xF1",
+        None,
+    ),
+    // no record
+    (b"\x05", None),
+];
+
+#[test]
+fn tags(rt: HostRuntime) {
+    for (bytes, want) in &TAGS {
+        let got = tag_of(bytes);
+        assert_eq!(rt; got.is_some(), want.is_some(), "{bytes:?}");
+        if let (Some(tag), Some((forward, scoped, name, unique_name))) = (got, want) {
+            assert_eq!(rt;
+                (tag.is_forward, tag.is_scoped),
+                (*forward, *scoped),
+                "{bytes:?}"
+            );
+            assert!(rt; tag.name == *name, "{bytes:?}");
+            assert_eq!(rt;
+                tag.unique_name.is_some(),
+                unique_name.is_some(),
+                "{bytes:?}"
+            );
+            if let (Some(got), Some(want)) = (tag.unique_name, unique_name) {
+                assert!(rt; got == *want, "{bytes:?}");
+            }
+        }
+    }
 }

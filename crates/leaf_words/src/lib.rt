@@ -78,10 +78,12 @@ mod tests {
     // Numeric leaves of the public format, and the texts behind them.
     #[test]
     fn leaves_and_texts(rt: HostRuntime) {
-        let leaves: [(&[u8], usize, Result<usize, NumericFault>); 9] = [
+        let leaves: [(&[u8], usize, Result<usize, NumericFault>); 14] = [
             (&[0xFF, 0x7F], 0, Ok(2)),
             (&[0, 0, 0x00, 0x80, 0x2A], 2, Ok(5)),
+            (&[0x01, 0x80, 1, 2, 3], 0, Ok(4)),
             (&[0x02, 0x80, 1, 2, 3], 0, Ok(4)),
+            (&[0x03, 0x80, 1, 2, 3, 4, 5], 0, Ok(6)),
             (&[0x04, 0x80, 1, 2, 3, 4], 0, Ok(6)),
             (&[0x0A, 0x80, 1, 2, 3, 4, 5, 6, 7, 8], 0, Ok(10)),
             (
@@ -89,7 +91,14 @@ mod tests {
                 0,
                 Err(NumericFault::Short),
             ),
+            (&[0x01, 0x80, 1], 0, Err(NumericFault::Short)),
+            (&[0x03, 0x80, 1, 2, 3], 0, Err(NumericFault::Short)),
             (&[0x05, 0x80, 1, 2, 3, 4], 0, Err(NumericFault::Unknown)),
+            (
+                &[0x08, 0x80, 1, 2, 3, 4, 5, 6, 7, 8],
+                0,
+                Err(NumericFault::Unknown),
+            ),
             (&[0x01], 0, Err(NumericFault::Short)),
             (&[0x01], 1, Err(NumericFault::Short)),
         ];

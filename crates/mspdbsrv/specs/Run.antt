@@ -1,9 +1,9 @@
--- What a run of the program does.
-use Rattle.std.specs.Prelude.{◌≡◌, ◌^◌, ⊤, ℕ, Bool, IsTrue, List, []}
+-- How a run of the program ends.
+use Rattle.std.specs.Prelude.{◌≡◌, ⊤, ℕ, IsTrue, List, codes}
 use Rattle.srv_edge.specs.declared.failed.SessionEnd.{SessionEnd}
 use Rattle.srv_edge.specs.declared.failed.SessionEnd.TheVariants as end
-use Rattle.request_frames.specs.Session.{IsInputEnd, IsSession}
-use Rattle.client_session.specs.Tables.{Tables, Answers}
+use Rattle.srv_edge.specs.declared.sink.Sink as sink
+use Rattle.srv_edge.specs.declared.source.Source as source
 use Rattle.mspdbsrv.specs.declared.status.Status.{Status}
 use Rattle.mspdbsrv.specs.declared.status.Status.TheVariants as status
 
@@ -30,19 +30,36 @@ IsEarly (status.Damage kind place) = ⊥
 IsEarly status.CutShort = ⊥
 IsEarly status.BadLength = ⊥
 
--- the tables before the first request, with the limits of the program
-abbrev pub empty_tables : Tables
-empty_tables = record {
-  types = record { max_records = 8388608; max_bytes = 1073741824; records = [] };
-  items = record { max_records = 8388608; max_bytes = 1073741824; records = [] };
-  names = record { max_bytes = 268435456; version = 1; names = [] };
-}
+-- nothing was read of a source that tells it
+abbrev pub IsUnread : {S : Type 0} → source.Ghosts S → S → S → Type 0
+IsUnread s old new = IsTrue s.tells → (s.given new ≡ s.given old) × (s.left new ≡ s.left old)
 
--- A session over empty tables, of at most 2 ^ 32 bytes: these bytes were read and these sent, and this was its
--- status. Where the input ended, nothing is left in a source that tells it.
-pub record IsRun (tells : Bool) (left read sent : List ℕ) (status : Status) : Type 0 where
-  pub tables : Tables
-  pub end : SessionEnd
-  pub session : IsSession Answers (2 ^ 32) empty_tables tables read sent end
-  pub status_is : status ≡ status_of end
-  pub none_left : IsInputEnd end → IsTrue tells → left ≡ []
+-- nothing went to a sink that tells it
+abbrev pub IsUnsent : {K : Type 0} → sink.Ghosts K → K → K → Type 0
+IsUnsent k old new = IsTrue k.tells → k.taken new ≡ k.taken old
+
+-- the exit status of the process
+abbrev pub exit_code : Status → ℕ
+exit_code status.Ok = 0
+exit_code status.Usage = 2
+exit_code status.ReadFault = 3
+exit_code status.WriteFault = 4
+exit_code status.DiskFault = 5
+exit_code (status.Damage kind place) = 6
+exit_code status.TooLong = 7
+exit_code status.OutOfMemory = 8
+exit_code status.CutShort = 9
+exit_code status.BadLength = 10
+
+-- the word for a status; a damage has its kind and its place behind it
+abbrev pub status_word : Status → List ℕ
+status_word status.Ok = codes "ok"
+status_word status.Usage = codes "usage"
+status_word status.ReadFault = codes "read fault"
+status_word status.WriteFault = codes "write fault"
+status_word status.DiskFault = codes "disk fault"
+status_word (status.Damage kind place) = codes "damage"
+status_word status.TooLong = codes "too long"
+status_word status.OutOfMemory = codes "out of memory"
+status_word status.CutShort = codes "cut short"
+status_word status.BadLength = codes "bad length"

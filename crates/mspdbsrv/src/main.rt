@@ -1,14 +1,12 @@
 //! A server through which the compilers of one build write type records and names.
 #![tactic(auto)]
 
-mod check;
-#[cfg(test)]
-mod check_tests;
+ghost use Rattle.std.specs.Prelude.{◌≡◌, IfOk, IsSome};
+
+mod commands;
 mod plan;
 mod run;
 mod status;
-#[cfg(test)]
-mod tests;
 mod word;
 
 use crate::plan::{Plan, Usage, plan_of};
@@ -21,7 +19,7 @@ use std::fs::File;
 use std::hash::RandomState;
 use std::process::ExitCode;
 use std::rt::Env;
-use std::{env, io};
+use std::{env, fs, io};
 
 // The words of the command line behind the program's name, or why there are none.
 fn words_of<R: Env + Alloc<A = Global>>(rt: &R) -> Result<Vec<Word>, Status> {
@@ -39,35 +37,52 @@ fn words_of<R: Env + Alloc<A = Global>>(rt: &R) -> Result<Vec<Word>, Status> {
     Ok(words)
 }
 
-// The file that the words name, or one that fails at every call, where they name none.
-fn device_of(rt: &HostRuntime, words: &[Word]) -> Result<FileDevice<File>, Status> {
-    match plan_of(rt.alloc(), words) {
-        Ok(Plan::Check { path }) => open(rt, path.as_str()),
-        Ok(Plan::Session) | Err(Usage::NotAForm) => Ok(FileDevice::absent()),
-        Err(Usage::OutOfMemory) => Err(Status::OutOfMemory),
+// The file that a plan names, or one that fails at every call, where it names none.
+fn device_of(rt: &HostRuntime, plan: &Plan) -> Result<FileDevice<File>, Status> {
+    match plan {
+        Plan::Check { path } => open(rt, path.as_str()),
+        Plan::Session => Ok(FileDevice::absent()),
     }
 }
 
-// A file opened for reading; one that fails at every call, where it is a folder or cannot be opened.
+// A regular file opened for reading. What is no regular file is not opened, since to open a pipe may
+// wait for a writer; it fails at every call, as does what cannot be opened.
 fn open(rt: &HostRuntime, path: &str) -> Result<FileDevice<File>, Status> {
-    match File::open(rt, path) {
-        Ok(file) if !is_folder(&file) => Ok(FileDevice::new(file)),
+    let file = match fs::metadata(rt, path) {
+        Ok(metadata) if metadata.is_file() => File::open(rt, path),
+        Ok(_) => return Ok(FileDevice::absent()),
+        Err(e) => Err(e),
+    };
+    match file {
+        Ok(file) => Ok(FileDevice::new(file)),
         Err(e) if e.kind() == io::ErrorKind::OutOfMemory => Err(Status::OutOfMemory),
-        _ => Ok(FileDevice::absent()),
+        Err(_) => Ok(FileDevice::absent()),
     }
 }
 
-fn is_folder(file: &File) -> bool {
-    match file.metadata() {
-        Ok(metadata) => metadata.is_dir(),
-        Err(_) => false,
+// The keys by which a session finds names. Where the system gives no random bytes, that is a failed
+// read. No other command asks for any.
+fn keys_of(rt: &HostRuntime, plan: &Plan) -> Result<Option<RandomState>, Status>
+    ensures { IfOk result (λ keys. plan.now ≡ Plan.Session → IsSome keys) }
+{
+    match plan {
+        Plan::Session => match RandomState::new(rt) {
+            Ok(keys) => Ok(Some(keys)),
+            Err(_) => Err(Status::ReadFault),
+        },
+        Plan::Check { .. } => Ok(None),
     }
 }
 
-// Does what the words ask for. Where the system gives no random bytes, it ends as out of memory, before it reads.
+// Does what the words ask for. They are judged before anything is asked of the system.
 fn run_words(rt: &HostRuntime, words: &[Word]) -> Result<Status, Status> {
-    let keys = RandomState::new(rt).map_err(|_| Status::OutOfMemory)?;
-    let device = device_of(rt, words)?;
+    let plan = match plan_of(rt.alloc(), words) {
+        Ok(plan) => plan,
+        Err(Usage::NotAForm) => return Err(Status::Usage),
+        Err(Usage::OutOfMemory) => return Err(Status::OutOfMemory),
+    };
+    let keys = keys_of(rt, &plan)?;
+    let device = device_of(rt, &plan)?;
     let mut source = StdIn::new(rt.stdin());
     let mut sink = StdOut::new(rt.stdout());
     Ok(run(rt.alloc(), keys, words, &mut source, &mut sink, device).0)

@@ -1,5 +1,5 @@
 ghost use Rattle.std.specs.Prelude.{◌≡◌};
-ghost use Rattle.mspdbsrv.specs.Run.{status_of};
+ghost use Rattle.mspdbsrv.specs.Run.{exit_code, status_of, status_word};
 
 use msf_image::DamageKind;
 use srv_edge::SessionEnd;
@@ -31,7 +31,9 @@ pub enum Status {
 
 impl Status {
     /// The exit status of the process.
-    pub fn code(self) -> u8 {
+    pub fn code(self) -> u8
+        ensures { result ≡ exit_code self }
+    {
         match self {
             Status::Ok => 0,
             Status::Usage => 2,
@@ -45,21 +47,31 @@ impl Status {
             Status::BadLength => 10,
         }
     }
+
+    /// The word for it on standard error. A damage has its kind and its place behind it.
+    pub fn word(self) -> &'static str
+        ensures { result.now ≡ status_word self }
+    {
+        match self {
+            Status::Ok => "ok",
+            Status::Usage => "usage",
+            Status::ReadFault => "read fault",
+            Status::WriteFault => "write fault",
+            Status::DiskFault => "disk fault",
+            Status::Damage { .. } => "damage",
+            Status::TooLong => "too long",
+            Status::OutOfMemory => "out of memory",
+            Status::CutShort => "cut short",
+            Status::BadLength => "bad length",
+        }
+    }
 }
 
 impl fmt::Display for Status {
     fn fmt<W: fmt::Write>(&self, f: &mut fmt::Formatter<W>) -> fmt::Result {
         match self {
-            Status::Ok => f.write_str("ok"),
-            Status::Usage => f.write_str("usage"),
-            Status::ReadFault => f.write_str("read fault"),
-            Status::WriteFault => f.write_str("write fault"),
-            Status::DiskFault => f.write_str("disk fault"),
-            Status::Damage { kind, place } => write!(f, "damage {} {place}", kind.name()),
-            Status::TooLong => f.write_str("too long"),
-            Status::OutOfMemory => f.write_str("out of memory"),
-            Status::CutShort => f.write_str("cut short"),
-            Status::BadLength => f.write_str("bad length"),
+            Status::Damage { kind, place } => write!(f, "{} {} {place}", self.word(), kind.name()),
+            _ => f.write_str(self.word()),
         }
     }
 }

@@ -1,9 +1,11 @@
 -- The table of names: each name begins at an offset, as it does among the strings of the stream `/names`.
-use Rattle.std.specs.Prelude.{◌≢◌, ◌≤◌, ◌+◌, ◌==◌, ℕ, Bool, nat_lt, List, [], ◌∷◌, ◌++◌, length, All, Option, None, Some, unwrap_or, is_none, Result, Ok, Err, is_ok, ◌&&◌, if◌then◌else◌}
+use Rattle.std.specs.Prelude.{◌≢◌, ◌≤◌, ◌+◌, ◌==◌, ℕ, Bool, IsTrue, nat_lt, List, [], ◌∷◌, ◌++◌, length, All, Option, None, Some, unwrap_or, is_none, Result, Ok, Err, is_ok, ◌&&◌, if◌then◌else◌}
 use Rattle.std.specs.Option.{option_map}
 use Rattle.std.specs.Str.{bytes_eq}
+use Rattle.srv_edge.specs.declared.limit.TheConstants.{NAME_BYTES}
+use Rattle.srv_edge.specs.Growth.{AnswersOrWants}
 use Rattle.names_table.specs.declared.fault.NameFault.{NameFault}
-use Rattle.names_table.specs.declared.fault.NameFault.TheVariants.{Full}
+use Rattle.names_table.specs.declared.fault.NameFault.TheVariants.{Full, OutOfMemory}
 
 -- the names, in the order in which they came, how many bytes they may take, and the version of their hashes
 pub record Names : Type 0 where
@@ -11,9 +13,9 @@ pub record Names : Type 0 where
   pub version : ℕ
   pub names : List (List ℕ)
 
--- at most 65,535 bytes without NUL
+-- a name has no NUL, and not too many bytes
 pub record IsName (name : List ℕ) : Type 0 where
-  pub longest : length name ≤ 65535
+  pub longest : length name ≤ NAME_BYTES
   pub no_nul : All (λ b. b ≢ 0) name
 
 -- The bytes that the names take: each has a NUL behind it, and the first of all is the NUL of the empty name.
@@ -36,9 +38,13 @@ abbrev pub offset_of : Names → List ℕ → Option ℕ
 offset_of table [] = Some 0
 offset_of table (b ∷ name) = offset_from 1 table.names (b ∷ name)
 
--- the name that begins at an offset
+-- the name of a list that begins at an offset: the empty one at 0
+abbrev pub name_in : List (List ℕ) → ℕ → Option (List ℕ)
+name_in names offset = if offset == 0 then Some [] else name_from 1 names offset
+
+-- the name of a table that begins at an offset
 abbrev pub name_at : Names → ℕ → Option (List ℕ)
-name_at table offset = if offset == 0 then Some [] else name_from 1 table.names offset
+name_at table offset = name_in table.names offset
 
 -- the bytes that the names would take with one more
 abbrev pub needed_for : Names → List ℕ → ℕ
@@ -59,3 +65,7 @@ appends table name = is_none (offset_of table name) && is_ok (answer_to_new tabl
 -- the table that an add leaves where memory is there
 abbrev pub after_add : Names → List ℕ → Names
 after_add table name = if appends table name then record table { names = table.names ++ name ∷ [] } else table
+
+-- An add answers so and leaves that table; or it wants memory, where it would append.
+abbrev pub Adds : Names → List ℕ → Result ℕ NameFault → Names → Type 0
+Adds old name result new = AnswersOrWants (Err OutOfMemory) (IsTrue (appends old name)) (answer_to_add old name) (after_add old name) result old new

@@ -1,6 +1,7 @@
 ghost use Rattle.std.specs.Prelude.{◌≡◌, ◌≤◌, ◌^◌, ◌↔◌, ◌⊎◌, [], Err, None, Some, length, IfOk, IfSome, IsTrue};
 ghost use Rattle.std.specs.Option.{option_copied};
-ghost use Rattle.names_table.specs.Names.{IsName, Names, after_add, answer_to_add, appends, bytes_of, name_at, offset_of};
+ghost use Rattle.srv_edge.specs.declared.limit.TheConstants.{NAME_BYTES};
+ghost use Rattle.names_table.specs.Names.{Adds, IsName, Names, bytes_of, name_at, offset_of};
 
 use crate::entries::{append, find_name};
 use crate::fault::NameFault;
@@ -55,10 +56,7 @@ impl NamesTable {
     /// asks for memory.
     pub fn add(&mut self, name: &[u8]) -> Result<u32, NameFault>
         requires { IsName name.now }
-        ensures answer { (result ≡ answer_to_add self.old name.now) ⊎ (result ≡ Err NameFault.OutOfMemory) }
-        ensures after { (result ≡ Err NameFault.OutOfMemory) ⊎ (self.new ≡ after_add self.old name.now) }
-        ensures no_memory { result ≡ Err NameFault.OutOfMemory → IsTrue (appends self.old name.now) }
-        ensures kept { result ≡ Err NameFault.OutOfMemory → self.new ≡ self.old }
+        ensures { Adds self.old name.now result self.new }
     {
         if let Some(offset) = self.find(name) {
             return Ok(offset);
@@ -90,7 +88,7 @@ impl NamesTable {
     /// The name that begins at an offset: the empty one at 0.
     pub fn get(&self, offset: u32) -> Option<&[u8]>
         ensures name { option_copied result ≡ name_at self.now offset }
-        ensures length { IfSome result (λ name. length name.now ≤ 65535) }
+        ensures length { IfSome result (λ name. length name.now ≤ NAME_BYTES) }
     {
         if offset == 0 {
             return Some(&[]);

@@ -1,12 +1,14 @@
 -- One table of records: what an add and a get answer.
-use Rattle.std.specs.Prelude.{◌≡◌, ◌≤◌, ◌+◌, ◌-◌, ℕ, Bool, ◌&&◌, nat_lt, List, [], ◌∷◌, ◌++◌, length, Option, None, Some, is_none, unwrap_or, Result, Ok, Err, is_ok, if◌then◌else◌}
+use Rattle.std.specs.Prelude.{◌≡◌, ◌≤◌, ◌+◌, ◌-◌, ℕ, Bool, IsTrue, ◌&&◌, nat_lt, List, [], ◌∷◌, ◌++◌, length, Option, None, Some, is_none, unwrap_or, Result, Ok, Err, is_ok, if◌then◌else◌}
 use Rattle.std.specs.List.{slice_get}
 use Rattle.std.specs.Option.{option_map}
 use Rattle.std.specs.Str.{bytes_eq}
 use Rattle.byteorder.specs.Endian.{little_number}
+use Rattle.record_table.specs.declared.first.TheConstants.{FIRST_INDEX}
+use Rattle.srv_edge.specs.Growth.{AnswersOrWants}
 use Rattle.srv_edge.specs.Records.{joined}
 use Rattle.record_table.specs.declared.fault.AddFault.{AddFault}
-use Rattle.record_table.specs.declared.fault.AddFault.TheVariants.{Records, Bytes}
+use Rattle.record_table.specs.declared.fault.AddFault.TheVariants.{Records, Bytes, OutOfMemory}
 
 -- the records, in the order in which they came, and how many records and bytes there may be
 pub record Table : Type 0 where
@@ -25,9 +27,9 @@ abbrev pub place_of : List (List ℕ) → List ℕ → Option ℕ
 place_of [] r = None
 place_of (x ∷ records) r = if bytes_eq x r then Some 0 else option_map (λ place. place + 1) (place_of records r)
 
--- the record at a place has this index: those below 4,096 are simple, and name no record
+-- the record at a place has this index: those below the first are simple, and name no record
 abbrev pub index_at : ℕ → ℕ
-index_at place = 4096 + place
+index_at place = FIRST_INDEX + place
 
 -- the index of the first record that equals this one
 abbrev pub index_of : Table → List ℕ → Option ℕ
@@ -60,6 +62,14 @@ appends table r = is_none (index_of table r) && is_ok (answer_to_new table r)
 abbrev pub after_add : Table → List ℕ → Table
 after_add table r = if appends table r then appended table r else table
 
--- the record at an index
+-- the record at an index of a list
+abbrev pub record_in : List (List ℕ) → ℕ → Option (List ℕ)
+record_in records index = if nat_lt index FIRST_INDEX then None else slice_get records (index - FIRST_INDEX)
+
+-- the record at an index of a table
 abbrev pub record_at : Table → ℕ → Option (List ℕ)
-record_at table index = if nat_lt index 4096 then None else slice_get table.records (index - 4096)
+record_at table index = record_in table.records index
+
+-- An add answers so and leaves that table; or it wants memory, where it would append.
+abbrev pub Adds : Table → List ℕ → Result ℕ AddFault → Table → Type 0
+Adds old r result new = AnswersOrWants (Err OutOfMemory) (IsTrue (appends old r)) (answer_to_add old r) (after_add old r) result old new

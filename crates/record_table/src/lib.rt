@@ -2,7 +2,9 @@
 #![tactic(auto)]
 
 mod fault;
+mod first;
 mod table;
 
 pub use crate::fault::AddFault;
-pub use crate::table::{FIRST_INDEX, RecordTable};
+pub use crate::first::FIRST_INDEX;
+pub use crate::table::RecordTable;

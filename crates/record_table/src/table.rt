@@ -1,14 +1,12 @@
 ghost use Rattle.std.specs.Prelude.{◌≡◌, ◌≤◌, ◌^◌, ◌↔◌, ◌⊎◌, [], Err, None, Some, length, IfOk, IfSome, IsTrue};
 ghost use Rattle.std.specs.Option.{option_copied, option_map};
-ghost use Rattle.record_table.specs.Table.{IsRecord, Table, after_add, answer_to_add, appends, bytes_in, index_at, index_of, place_of, record_at};
+ghost use Rattle.record_table.specs.Table.{Adds, IsRecord, Table, bytes_in, index_at, index_of, place_of, record_at};
 
 use crate::fault::AddFault;
+use crate::first::FIRST_INDEX;
 use srv_edge::{Limits, RecordList};
 use std::alloc::{AllocError, Global};
 use std::marker::Model;
-
-/// The index of the first record of a table. Those below it are simple, and name no record.
-pub const FIRST_INDEX: u32 = 0x1000;
 
 /// The records of one space. It is searched from the front.
 #[derive(Drop)]
@@ -53,10 +51,7 @@ impl RecordTable {
     /// passes no limit asks for memory.
     pub fn add(&mut self, bytes: &[u8]) -> Result<u32, AddFault>
         requires { IsRecord bytes.now }
-        ensures answer { (result ≡ answer_to_add self.old bytes.now) ⊎ (result ≡ Err AddFault.OutOfMemory) }
-        ensures after { (result ≡ Err AddFault.OutOfMemory) ⊎ (self.new ≡ after_add self.old bytes.now) }
-        ensures no_memory { result ≡ Err AddFault.OutOfMemory → IsTrue (appends self.old bytes.now) }
-        ensures kept { result ≡ Err AddFault.OutOfMemory → self.new ≡ self.old }
+        ensures { Adds self.old bytes.now result self.new }
     {
         if let Some(index) = self.find(bytes) {
             return Ok(index);

@@ -1,5 +1,7 @@
 -- Requests and replies as frames: the table of kinds.
 use Rattle.std.specs.Prelude.{◌≡◌, ◌≢◌, ◌≤◌, ◌<◌, ◌^◌, ◌⊎◌, ⊤, ℕ, List, [], length, drop, slice_index, All}
+use Rattle.srv_edge.specs.declared.kind.TheConstants as kinds
+use Rattle.srv_edge.specs.declared.limit.TheConstants.{NAME_BYTES, RECORD_BYTES}
 use Rattle.srv_edge.specs.Frames.{Frame, half_bytes, word_bytes}
 use Rattle.request_frames.specs.declared.request.Request.{Request}
 use Rattle.request_frames.specs.declared.request.Request.TheVariants.{Hello, AddType, AddItem, AddName, GetType, GetItem, GetName, Counts, Bye}
@@ -30,22 +32,22 @@ asked Bye = bye
 
 -- the frame of a request
 abbrev pub request_frame : Asked → Frame
-request_frame (hello version) = record { kind = 1; body = half_bytes version }
-request_frame (add_type r) = record { kind = 2; body = r }
-request_frame (add_item r) = record { kind = 3; body = r }
-request_frame (add_name name) = record { kind = 4; body = name }
-request_frame (get_type index) = record { kind = 5; body = word_bytes index }
-request_frame (get_item index) = record { kind = 6; body = word_bytes index }
-request_frame (get_name offset) = record { kind = 7; body = word_bytes offset }
-request_frame counts = record { kind = 9; body = [] }
-request_frame bye = record { kind = 10; body = [] }
+request_frame (hello version) = record { kind = kinds.HELLO; body = half_bytes version }
+request_frame (add_type r) = record { kind = kinds.ADD_TYPE; body = r }
+request_frame (add_item r) = record { kind = kinds.ADD_ITEM; body = r }
+request_frame (add_name name) = record { kind = kinds.ADD_NAME; body = name }
+request_frame (get_type index) = record { kind = kinds.GET_TYPE; body = word_bytes index }
+request_frame (get_item index) = record { kind = kinds.GET_ITEM; body = word_bytes index }
+request_frame (get_name offset) = record { kind = kinds.GET_NAME; body = word_bytes offset }
+request_frame counts = record { kind = kinds.COUNTS; body = [] }
+request_frame bye = record { kind = kinds.BYE; body = [] }
 
 -- what may be asked: a version of at least 1, a name of at most 65,535 bytes without NUL
 abbrev pub IsAsked : Asked → Type 0
 IsAsked (hello version) = (1 ≤ version) × (version < 2 ^ 16)
 IsAsked (add_type r) = ⊤
 IsAsked (add_item r) = ⊤
-IsAsked (add_name name) = (length name ≤ 65535) × All (λ b. b ≢ 0) name
+IsAsked (add_name name) = (length name ≤ NAME_BYTES) × All (λ b. b ≢ 0) name
 IsAsked (get_type index) = index < 2 ^ 32
 IsAsked (get_item index) = index < 2 ^ 32
 IsAsked (get_name offset) = offset < 2 ^ 32
@@ -55,8 +57,8 @@ IsAsked bye = ⊤
 -- a request whose frame a session takes: a record has at most 65,536 bytes
 abbrev pub FitsFrame : Asked → Type 0
 FitsFrame (hello version) = ⊤
-FitsFrame (add_type r) = length r ≤ 65536
-FitsFrame (add_item r) = length r ≤ 65536
+FitsFrame (add_type r) = length r ≤ RECORD_BYTES
+FitsFrame (add_item r) = length r ≤ RECORD_BYTES
 FitsFrame (add_name name) = ⊤
 FitsFrame (get_type index) = ⊤
 FitsFrame (get_item index) = ⊤
@@ -66,7 +68,8 @@ FitsFrame bye = ⊤
 
 -- the kinds of requests
 abbrev pub IsKind : ℕ → Type 0
-IsKind kind = (kind ≡ 1) ⊎ (kind ≡ 2) ⊎ (kind ≡ 3) ⊎ (kind ≡ 4) ⊎ (kind ≡ 5) ⊎ (kind ≡ 6) ⊎ (kind ≡ 7) ⊎ (kind ≡ 9) ⊎ (kind ≡ 10)
+IsKind kind = (kind ≡ kinds.HELLO) ⊎ (kind ≡ kinds.ADD_TYPE) ⊎ (kind ≡ kinds.ADD_ITEM) ⊎ (kind ≡ kinds.ADD_NAME) ⊎ (kind ≡ kinds.GET_TYPE)
+    ⊎ (kind ≡ kinds.GET_ITEM) ⊎ (kind ≡ kinds.GET_NAME) ⊎ (kind ≡ kinds.COUNTS) ⊎ (kind ≡ kinds.BYE)
 
 -- a kind and a body that lie one behind the other
 abbrev pub frame_of : List ℕ → Frame

@@ -1,16 +1,18 @@
 -- What a desk answers to the frames of a session, one after another.
 use Rattle.std.specs.Prelude.{◌≡◌, ◌==◌, ◌&&◌, ◌+◌, ◌⊎◌, ℕ, Bool, IsTrue, List, [], ◌∷◌, length, slice_index, if◌then◌else◌}
+use Rattle.srv_edge.specs.declared.code.TheConstants as code
+use Rattle.srv_edge.specs.declared.kind.TheConstants as kinds
 use Rattle.srv_edge.specs.Count.{HasCause}
 use Rattle.srv_edge.specs.Frames.{Frame, frame_bytes, refused}
 use Rattle.request_frames.specs.Requests.{Asked, IsAsked, IsBadBody, IsKind, request_frame}
 
--- a reply has the kind of its request plus 128, or it is a refusal
+-- a reply has the kind that its request asks for, or it is a refusal
 abbrev pub IsReplyTo : Frame → Frame → Type 0
-IsReplyTo request reply = (reply.kind ≡ request.kind + 128) ⊎ (reply.kind ≡ 255)
+IsReplyTo request reply = (reply.kind ≡ request.kind + kinds.REPLY) ⊎ (reply.kind ≡ kinds.REFUSED)
 
 -- whether a reply is a refusal for a fault of the device
 abbrev pub is_disk_fault : Frame → Bool
-is_disk_fault reply = (reply.kind == 255) && (slice_index reply.body 0 == 8)
+is_disk_fault reply = (reply.kind == kinds.REFUSED) && (slice_index reply.body 0 == code.DISK_FAULT)
 
 -- how many of these replies are
 abbrev pub disk_faults : List Frame → ℕ
@@ -36,8 +38,8 @@ module _ {S : Type 0} (answers : S → Asked → Frame → S → Type 0) where
   abbrev pub AnswersFrame : S → Frame → Frame → S → Type 0
   AnswersFrame old frame reply new =
       ((a : Asked) × (request_frame a ≡ frame) × IsAsked a × answers old a reply new × IsReplyTo frame reply)
-      ⊎ (¬ IsKind frame.kind × (reply ≡ refused 2 frame.kind 0) × (new ≡ old))
-      ⊎ (IsBadBody frame × (reply ≡ refused 3 (length frame.body) 0) × (new ≡ old))
+      ⊎ (¬ IsKind frame.kind × (reply ≡ refused code.BAD_KIND frame.kind 0) × (new ≡ old))
+      ⊎ (IsBadBody frame × (reply ≡ refused code.BAD_BODY (length frame.body) 0) × (new ≡ old))
 
   -- one reply to each frame, in order
   abbrev pub IsTalk : S → List Frame → List Frame → S → Type 0

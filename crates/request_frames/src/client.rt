@@ -1,4 +1,7 @@
-ghost use Rattle.std.specs.Prelude.{◌≡◌, ◌≢◌, ◌≤◌, ◌++◌, ◌∷◌, ℕ, length, slice_index, All, IfOk, OnOk, OnErr, Err};
+ghost use Rattle.std.specs.Prelude.{◌≡◌, ◌≢◌, ◌≤◌, ◌+◌, ◌++◌, ◌∷◌, ℕ, length, slice_index, All, IfOk, OnOk, OnErr, Err};
+ghost use Rattle.srv_edge.specs.declared.code.TheConstants as codes;
+ghost use Rattle.srv_edge.specs.declared.kind.TheConstants as kinds;
+ghost use Rattle.srv_edge.specs.declared.limit.TheConstants.{RECORD_BYTES};
 ghost use Rattle.srv_edge.specs.Frames.{frame_bytes, half_bytes, refused, word_bytes};
 ghost use Rattle.request_frames.specs.Requests.{FitsFrame, IsAsked, asked, frame_of, request_frame};
 ghost use Rattle.request_frames.specs.Replies.{IsBadReply, IsReply, IsReplyKind, reply_frame};
@@ -6,14 +9,22 @@ ghost use Rattle.request_frames.specs.Replies.{IsBadReply, IsReply, IsReplyKind,
 use crate::read::read_word;
 use crate::reply::Reply;
 use crate::request::{BadFrame, Request};
-use srv_edge::{half, half_at, word, word_at};
+use srv_edge::{code, half, half_at, kind, word, word_at};
 use std::alloc::AllocError;
 
 /// The version of the protocol that is spoken.
 pub const VERSION: u16 = 1;
 
-/// The greatest code of a refusal.
-const LAST_CODE: u8 = 9;
+// The kinds of replies.
+const HELLO_REPLY: u8 = kind::HELLO + kind::REPLY;
+const ADD_TYPE_REPLY: u8 = kind::ADD_TYPE + kind::REPLY;
+const ADD_ITEM_REPLY: u8 = kind::ADD_ITEM + kind::REPLY;
+const ADD_NAME_REPLY: u8 = kind::ADD_NAME + kind::REPLY;
+const GET_TYPE_REPLY: u8 = kind::GET_TYPE + kind::REPLY;
+const GET_ITEM_REPLY: u8 = kind::GET_ITEM + kind::REPLY;
+const GET_NAME_REPLY: u8 = kind::GET_NAME + kind::REPLY;
+const COUNTS_REPLY: u8 = kind::COUNTS + kind::REPLY;
+const BYE_REPLY: u8 = kind::BYE + kind::REPLY;
 
 /// Writes a request behind what is there, with its length.
 pub fn write_request(r: &Request, out: &mut Vec<u8>) -> Result<(), AllocError>
@@ -24,21 +35,21 @@ pub fn write_request(r: &Request, out: &mut Vec<u8>) -> Result<(), AllocError>
     ensures err { OnErr result (out.new.items ≡ out.old.items) }
 {
     match *r {
-        Request::Hello(version) => append(1, &half(version), out),
-        Request::AddType(bytes) => append(2, bytes, out),
-        Request::AddItem(bytes) => append(3, bytes, out),
-        Request::AddName(name) => append(4, name, out),
-        Request::GetType(index) => append(5, &word(index), out),
-        Request::GetItem(index) => append(6, &word(index), out),
-        Request::GetName(offset) => append(7, &word(offset), out),
-        Request::Counts => append(9, &[], out),
-        Request::Bye => append(10, &[], out),
+        Request::Hello(version) => append(kind::HELLO, &half(version), out),
+        Request::AddType(bytes) => append(kind::ADD_TYPE, bytes, out),
+        Request::AddItem(bytes) => append(kind::ADD_ITEM, bytes, out),
+        Request::AddName(name) => append(kind::ADD_NAME, name, out),
+        Request::GetType(index) => append(kind::GET_TYPE, &word(index), out),
+        Request::GetItem(index) => append(kind::GET_ITEM, &word(index), out),
+        Request::GetName(offset) => append(kind::GET_NAME, &word(offset), out),
+        Request::Counts => append(kind::COUNTS, &[], out),
+        Request::Bye => append(kind::BYE, &[], out),
     }
 }
 
 // Appends a frame.
 fn append(kind: u8, body: &[u8], out: &mut Vec<u8>) -> Result<(), AllocError>
-    requires { length body.now ≤ 65536 }
+    requires { length body.now ≤ RECORD_BYTES }
     ensures ok { OnOk result
         (out.new.items ≡ out.old.items ++ frame_bytes (record { kind = kind; body = body.now })) }
     ensures err { OnErr result (out.new.items ≡ out.old.items) }
@@ -60,17 +71,17 @@ pub fn read_reply<'a>(frame: &'a [u8]) -> Result<Reply<'a>, BadFrame>
 {
     let body = &frame[1..];
     match frame[0] {
-        0x81 => read_hello(body),
-        0x82 => Ok(Reply::AddedType(read_word(body)?)),
-        0x83 => Ok(Reply::AddedItem(read_word(body)?)),
-        0x84 => Ok(Reply::AddedName(read_word(body)?)),
-        0x85 => Ok(Reply::GotType(body)),
-        0x86 => Ok(Reply::GotItem(body)),
-        0x87 => read_name(body),
-        0x89 => read_counts(body),
-        0x8a if body.is_empty() => Ok(Reply::Bye),
-        0x8a => Err(BadFrame::Body),
-        0xff => read_refusal(body),
+        HELLO_REPLY => read_hello(body),
+        ADD_TYPE_REPLY => Ok(Reply::AddedType(read_word(body)?)),
+        ADD_ITEM_REPLY => Ok(Reply::AddedItem(read_word(body)?)),
+        ADD_NAME_REPLY => Ok(Reply::AddedName(read_word(body)?)),
+        GET_TYPE_REPLY => Ok(Reply::GotType(body)),
+        GET_ITEM_REPLY => Ok(Reply::GotItem(body)),
+        GET_NAME_REPLY => read_name(body),
+        COUNTS_REPLY => read_counts(body),
+        BYE_REPLY if body.is_empty() => Ok(Reply::Bye),
+        BYE_REPLY => Err(BadFrame::Body),
+        kind::REFUSED => read_refusal(body),
         _ => Err(BadFrame::Kind),
     }
 }
@@ -78,10 +89,10 @@ pub fn read_reply<'a>(frame: &'a [u8]) -> Result<Reply<'a>, BadFrame>
 // A body that is the version of the protocol.
 fn read_hello<'a>(body: &[u8]) -> Result<Reply<'a>, BadFrame>
     ensures reply { IfOk result
-        (λ reply. reply_frame reply ≡ record { kind = 129; body = body.now }) }
+        (λ reply. reply_frame reply ≡ record { kind = kinds.HELLO + kinds.REPLY; body = body.now }) }
     ensures answered { IfOk result (λ reply. IsReply reply) }
     ensures err { OnErr result (result ≡ Err BadFrame.Body) }
-    ensures bad { OnErr result (half_bytes 1 ≢ body.now) }
+    ensures bad { OnErr result (half_bytes VERSION ≢ body.now) }
 {
     if body.len() != 2 {
         return Err(BadFrame::Body);
@@ -96,7 +107,7 @@ fn read_hello<'a>(body: &[u8]) -> Result<Reply<'a>, BadFrame>
 // A body that is a name.
 fn read_name<'a>(body: &'a [u8]) -> Result<Reply<'a>, BadFrame>
     ensures reply { IfOk result
-        (λ reply. reply_frame reply ≡ record { kind = 135; body = body.now }) }
+        (λ reply. reply_frame reply ≡ record { kind = kinds.GET_NAME + kinds.REPLY; body = body.now }) }
     ensures answered { IfOk result (λ reply. IsReply reply) }
     ensures err { OnErr result (result ≡ Err BadFrame.Body) }
     ensures bad { OnErr result (¬ All (λ b. b ≢ 0) body.now) }
@@ -110,7 +121,7 @@ fn read_name<'a>(body: &'a [u8]) -> Result<Reply<'a>, BadFrame>
 // A body that is three numbers.
 fn read_counts<'a>(body: &[u8]) -> Result<Reply<'a>, BadFrame>
     ensures reply { IfOk result
-        (λ reply. reply_frame reply ≡ record { kind = 137; body = body.now }) }
+        (λ reply. reply_frame reply ≡ record { kind = kinds.COUNTS + kinds.REPLY; body = body.now }) }
     ensures answered { IfOk result (λ reply. IsReply reply) }
     ensures err { OnErr result (result ≡ Err BadFrame.Body) }
     ensures bad { OnErr result
@@ -127,17 +138,17 @@ fn read_counts<'a>(body: &[u8]) -> Result<Reply<'a>, BadFrame>
 // A body that is a code and two numbers.
 fn read_refusal<'a>(body: &[u8]) -> Result<Reply<'a>, BadFrame>
     ensures reply { IfOk result
-        (λ reply. reply_frame reply ≡ record { kind = 255; body = body.now }) }
+        (λ reply. reply_frame reply ≡ record { kind = kinds.REFUSED; body = body.now }) }
     ensures answered { IfOk result (λ reply. IsReply reply) }
     ensures err { OnErr result (result ≡ Err BadFrame.Body) }
     ensures bad { OnErr result
-        ((code a b : ℕ) → 1 ≤ code → code ≤ 9 → (refused code a b).body ≢ body.now) }
+        ((code a b : ℕ) → codes.BAD_LENGTH ≤ code → code ≤ codes.UNDERWAY → (refused code a b).body ≢ body.now) }
 {
     if body.len() != 9 {
         return Err(BadFrame::Body);
     }
     let code = body[0];
-    if code == 0 || code > LAST_CODE {
+    if code < code::BAD_LENGTH || code > code::UNDERWAY {
         return Err(BadFrame::Body);
     }
     let numbers = &body[1..];

@@ -1,11 +1,10 @@
 ghost use Rattle.std.specs.Prelude.{◌≡◌, ◌≤◌, ◌+◌, ◌⊎◌, ◌++◌, ℕ, List, [], length, IsTrue};
 ghost use Rattle.srv_edge.specs.Exchange.{CallsSource, CameFrom};
+ghost use Rattle.srv_edge.specs.declared.piece.TheConstants.{PIECE_BYTES};
 ghost use Rattle.request_frames.specs.Next.{IsFilled, IsNext};
 
+use srv_edge::limit::FRAME_BYTES;
 use srv_edge::{Piece, Source, word_at};
-
-/// The greatest length of a request.
-const MOST: u32 = 65_537;
 
 /// What came in the place of the next frame.
 #[derive(Clone, Copy, Debug, PartialEq, Eq)]
@@ -44,7 +43,7 @@ pub(crate) fn next_frame<S: Source>(source: &mut S, limit: u64, frame: &mut Piec
         Filled::Failed => return Next::ReadFault,
     }
     let length = word_at(frame.bytes());
-    if length == 0 || length > MOST {
+    if length == 0 || length > FRAME_BYTES {
         return Next::BadLength(length);
     }
     match fill(source, frame, 4 + length as usize, limit) {
@@ -58,7 +57,7 @@ pub(crate) fn next_frame<S: Source>(source: &mut S, limit: u64, frame: &mut Piec
 // Takes bytes until the piece has as many as are wanted. It never has more than the limit.
 fn fill<S: Source>(source: &mut S, piece: &mut Piece, want: usize, limit: u64) -> Filled
     requires has { length piece.old ≤ want }
-    requires room { want ≤ 65542 }
+    requires room { want ≤ PIECE_BYTES }
     requires within { length piece.old ≤ limit }
     ensures filled { IsFilled result (length piece.new) want limit }
     ensures came { (more : List ℕ) × (piece.new ≡ piece.old ++ more)

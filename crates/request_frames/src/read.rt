@@ -1,12 +1,11 @@
 ghost use Rattle.std.specs.Prelude.{◌≡◌, ◌≢◌, ◌≤◌, ◌<◌, ◌^◌, ℕ, [], length, slice_index, All, IfOk, OnErr, Err};
+ghost use Rattle.srv_edge.specs.declared.kind.TheConstants as kinds;
 ghost use Rattle.srv_edge.specs.Frames.{half_bytes, word_bytes};
 ghost use Rattle.request_frames.specs.Requests.{IsAsked, IsBadBody, IsKind, add_name, asked, frame_of, request_frame};
 
 use crate::request::{BadFrame, Request};
-use srv_edge::{half_at, word_at};
-
-/// The most bytes of a name.
-const NAME_BYTES: usize = 65_535;
+use srv_edge::limit::NAME_BYTES;
+use srv_edge::{half_at, kind, word_at};
 
 /// Reads a request from its kind and its body.
 pub fn read_request<'a>(frame: &'a [u8]) -> Result<Request<'a>, BadFrame>
@@ -18,23 +17,23 @@ pub fn read_request<'a>(frame: &'a [u8]) -> Result<Request<'a>, BadFrame>
 {
     let body = &frame[1..];
     match frame[0] {
-        1 => read_hello(body),
-        2 => Ok(Request::AddType(body)),
-        3 => Ok(Request::AddItem(body)),
-        4 => read_name(body),
-        5 => Ok(Request::GetType(read_word(body)?)),
-        6 => Ok(Request::GetItem(read_word(body)?)),
-        7 => Ok(Request::GetName(read_word(body)?)),
-        9 if body.is_empty() => Ok(Request::Counts),
-        10 if body.is_empty() => Ok(Request::Bye),
-        9 | 10 => Err(BadFrame::Body),
+        kind::HELLO => read_hello(body),
+        kind::ADD_TYPE => Ok(Request::AddType(body)),
+        kind::ADD_ITEM => Ok(Request::AddItem(body)),
+        kind::ADD_NAME => read_name(body),
+        kind::GET_TYPE => Ok(Request::GetType(read_word(body)?)),
+        kind::GET_ITEM => Ok(Request::GetItem(read_word(body)?)),
+        kind::GET_NAME => Ok(Request::GetName(read_word(body)?)),
+        kind::COUNTS if body.is_empty() => Ok(Request::Counts),
+        kind::BYE if body.is_empty() => Ok(Request::Bye),
+        kind::COUNTS | kind::BYE => Err(BadFrame::Body),
         _ => Err(BadFrame::Kind),
     }
 }
 
 fn read_hello<'a>(body: &[u8]) -> Result<Request<'a>, BadFrame>
     ensures request { IfOk result
-        (λ request. request_frame (asked request) ≡ record { kind = 1; body = body.now }) }
+        (λ request. request_frame (asked request) ≡ record { kind = kinds.HELLO; body = body.now }) }
     ensures asked { IfOk result (λ request. IsAsked (asked request)) }
     ensures err { OnErr result (result ≡ Err BadFrame.Body) }
     ensures bad { OnErr result
@@ -52,12 +51,12 @@ fn read_hello<'a>(body: &[u8]) -> Result<Request<'a>, BadFrame>
 
 fn read_name<'a>(body: &'a [u8]) -> Result<Request<'a>, BadFrame>
     ensures name { IfOk result
-        (λ request. (asked request ≡ add_name body.now) × (length body.now ≤ 65535)
+        (λ request. (asked request ≡ add_name body.now) × (length body.now ≤ NAME_BYTES)
         × All (λ b. b ≢ 0) body.now) }
     ensures err { OnErr result (result ≡ Err BadFrame.Body) }
-    ensures bad { OnErr result (length body.now ≤ 65535 → All (λ b. b ≢ 0) body.now → ⊥) }
+    ensures bad { OnErr result (length body.now ≤ NAME_BYTES → All (λ b. b ≢ 0) body.now → ⊥) }
 {
-    if body.len() > NAME_BYTES || body.contains(&0) {
+    if body.len() > NAME_BYTES as usize || body.contains(&0) {
         return Err(BadFrame::Body);
     }
     Ok(Request::AddName(body))

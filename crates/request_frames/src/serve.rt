@@ -1,4 +1,6 @@
 ghost use Rattle.std.specs.Prelude.{◌≡◌, ◌≤◌, ◌⊎◌, ◌↔◌, ℕ, List, [], length, drop, IsTrue, Some};
+ghost use Rattle.srv_edge.specs.declared.code.TheConstants as codes;
+ghost use Rattle.srv_edge.specs.declared.limit.TheConstants.{FRAME_BYTES};
 ghost use Rattle.srv_edge.specs.Count.{Rose};
 ghost use Rattle.srv_edge.specs.Exchange.{CallsSink, WentTo};
 ghost use Rattle.srv_edge.specs.Frames.{IsBye, IsLength, frame_bytes, length_of, refused};
@@ -12,13 +14,13 @@ use crate::next::{Next, next_frame};
 use crate::read::read_request;
 use crate::request::{BadFrame, Request};
 use crate::write::write_bad;
-use srv_edge::{Link, Piece, Room, SessionEnd, give_all};
+use srv_edge::{Link, Piece, Room, SessionEnd, code, give_all};
 
 // Puts the reply to a frame, whose kind and body are given, into an empty piece. Answers whether it
 // was a Bye.
 fn answer_frame<K: Desk>(ground: &K::Ground, desk: &mut K, frame: &[u8], out: &mut Piece) -> bool
     requires some { 1 ≤ length frame.now }
-    requires few { length frame.now ≤ 65537 }
+    requires few { length frame.now ≤ FRAME_BYTES }
     requires empty { out.old ≡ [] }
     ensures reply { PutsAnswer K.Desk desk.old (frame_of frame.now) out.new desk.new }
     ensures bye { IsTrue result ↔ IsBye (frame_of frame.now) }
@@ -29,11 +31,11 @@ fn answer_frame<K: Desk>(ground: &K::Ground, desk: &mut K, frame: &[u8], out: &m
             matches!(request, Request::Bye)
         }
         Err(BadFrame::Kind) => {
-            write_bad(2, u32::from(frame[0]), out);
+            write_bad(code::BAD_KIND, u32::from(frame[0]), out);
             false
         }
         Err(BadFrame::Body) => {
-            write_bad(3, frame.len() as u32 - 1, out);
+            write_bad(code::BAD_BODY, frame.len() as u32 - 1, out);
             false
         }
     }
@@ -43,7 +45,7 @@ fn answer_frame<K: Desk>(ground: &K::Ground, desk: &mut K, frame: &[u8], out: &m
 fn kind_and_body(frame: &Piece) -> &[u8]
     requires { IsWholeFrame frame.now }
     ensures some { 1 ≤ length result.now }
-    ensures few { length result.now ≤ 65537 }
+    ensures few { length result.now ≤ FRAME_BYTES }
     ensures frame { frame_bytes (frame_of result.now) ≡ frame.now }
     ensures is_length { IsLength (length_of (frame_of result.now)) }
 {
@@ -85,12 +87,12 @@ fn send_answer<L: Link, K: Desk>(
 // Refuses the length that stands in the place of a frame.
 fn send_refusal<L: Link>(link: &mut L, length: u32, reply: &mut Piece) -> SessionEnd
     requires { reply.old ≡ [] }
-    ensures sent { (sent : List ℕ) × Sends result sent (frame_bytes (refused 1 length 0))
+    ensures sent { (sent : List ℕ) × Sends result sent (frame_bytes (refused codes.BAD_LENGTH length 0))
         × WentTo L.Sink sent link.old link.new }
     ensures ends { (result ≡ SessionEnd.WriteFault) ⊎ (result ≡ SessionEnd.BadLength) }
     ensures calls { CallsSink L.Sink (result ≡ SessionEnd.WriteFault) link.old link.new }
 {
-    write_bad(1, length, reply);
+    write_bad(code::BAD_LENGTH, length, reply);
     match give_all(link, reply.bytes()) {
         Err(_) => SessionEnd::WriteFault,
         Ok(()) => SessionEnd::BadLength,

@@ -1,11 +1,9 @@
 ghost use Rattle.std.specs.Prelude.{◌≡◌, ◌≤◌, ◌∷◌, ◌++◌, [], length};
+ghost use Rattle.srv_edge.specs.declared.code.TheConstants as codes;
 ghost use Rattle.srv_edge.specs.Frames.{frame_bytes, refused, word_bytes};
 ghost use Rattle.request_frames.specs.Refusals.{refusal_frame};
 
-use srv_edge::{Piece, Refusal, word};
-
-/// The kind of every refusal.
-const REFUSED: u8 = 0xff;
+use srv_edge::{Piece, Refusal, code, kind, word};
 
 /// Writes a frame into an empty piece: its length, its kind and its body.
 pub fn write_frame(kind: u8, body: &[u8], out: &mut Piece)
@@ -27,10 +25,10 @@ pub fn write_refusal(r: &Refusal, out: &mut Piece)
     write_code(code, a, b, out);
 }
 
-/// Writes the refusal of a length, a kind or a body, codes 1 to 3, into an empty piece.
+/// Writes the refusal of a length, a kind or a body into an empty piece.
 pub fn write_bad(code: u8, a: u32, out: &mut Piece)
-    requires least { 1 ≤ code }
-    requires most { code ≤ 3 }
+    requires least { codes.BAD_LENGTH ≤ code }
+    requires most { code ≤ codes.BAD_BODY }
     requires empty { out.old ≡ [] }
     ensures { out.new ≡ frame_bytes (refused code a 0) }
 {
@@ -42,12 +40,12 @@ fn numbers(r: &Refusal) -> (u8, u32, u32)
     ensures { refused result.0 result.1 result.2 ≡ refusal_frame r.now }
 {
     match *r {
-        Refusal::Malformed { at, what } => (4, at, u32::from(what)),
-        Refusal::NotGiven { space, index } => (5, u32::from(space), index),
-        Refusal::Full { which, needed } => (6, u32::from(which), needed),
-        Refusal::OutOfMemory => (7, 0, 0),
-        Refusal::DiskFault { number } => (8, number, 0),
-        Refusal::Underway { number } => (9, number, 0),
+        Refusal::Malformed { at, what } => (code::MALFORMED, at, u32::from(what)),
+        Refusal::NotGiven { space, index } => (code::NOT_GIVEN, u32::from(space), index),
+        Refusal::Full { which, needed } => (code::FULL, u32::from(which), needed),
+        Refusal::OutOfMemory => (code::OUT_OF_MEMORY, 0, 0),
+        Refusal::DiskFault { number } => (code::DISK_FAULT, number, 0),
+        Refusal::Underway { number } => (code::UNDERWAY, number, 0),
     }
 }
 
@@ -56,7 +54,7 @@ fn write_code(code: u8, a: u32, b: u32, out: &mut Piece)
     ensures { out.new ≡ frame_bytes (refused code a b) }
 {
     out.push(&word(10));
-    out.push(&[REFUSED, code]);
+    out.push(&[kind::REFUSED, code]);
     out.push(&word(a));
     out.push(&word(b));
 }

@@ -1,6 +1,9 @@
 -- The frames of a stream of bytes, and how it stops.
 use Rattle.std.specs.Prelude.{◌≡◌, ◌≤◌, ◌<◌, ◌+◌, ◌^◌, ◌⊎◌, ℕ, List, [], ◌∷◌, ◌++◌, length}
 use Rattle.byteorder.specs.Endian.{little_bytes}
+use Rattle.srv_edge.specs.declared.code.TheConstants as code
+use Rattle.srv_edge.specs.declared.kind.TheConstants as kinds
+use Rattle.srv_edge.specs.declared.limit.TheConstants.{FRAME_BYTES}
 
 -- the four bytes of a number, the lowest first
 unfoldable pub word_bytes : ℕ → List ℕ
@@ -30,7 +33,7 @@ stream_of (f ∷ frames) = frame_bytes f ++ stream_of frames
 
 -- a length that the frame of a request has
 abbrev pub IsLength : ℕ → Type 0
-IsLength n = (1 ≤ n) × (n ≤ 65537)
+IsLength n = (1 ≤ n) × (n ≤ FRAME_BYTES)
 
 -- how a stream stops behind its whole frames: between two frames, within a frame, at a length
 -- that no request has, or at a Bye frame
@@ -40,9 +43,9 @@ pub data Tail : Type 0 where
   bad_length : ℕ → Tail
   at_bye : Tail
 
--- a frame of kind 10 with no body
+-- a Bye frame has no body
 abbrev pub IsBye : Frame → Type 0
-IsBye f = (f.kind ≡ 10) × (f.body ≡ [])
+IsBye f = (f.kind ≡ kinds.BYE) × (f.body ≡ [])
 
 -- fewer bytes than a length has, or a length and fewer bytes than it says
 abbrev pub IsPartFrame : List ℕ → Type 0
@@ -72,11 +75,11 @@ ReadsNoMore bytes frames at_bye = bytes ≡ stream_of frames
 
 -- a refusal by its code and its two numbers
 abbrev pub refused : ℕ → ℕ → ℕ → Frame
-refused code a b = record { kind = 255; body = code ∷ word_bytes a ++ word_bytes b }
+refused which a b = record { kind = kinds.REFUSED; body = which ∷ word_bytes a ++ word_bytes b }
 
 -- what is sent: the replies, and where the stream stops at a bad length the refusal of it
 abbrev pub session_text : List Frame → Tail → List ℕ
 session_text replies at_end = stream_of replies
 session_text replies cut_short = stream_of replies
-session_text replies (bad_length n) = stream_of replies ++ frame_bytes (refused 1 n 0)
+session_text replies (bad_length n) = stream_of replies ++ frame_bytes (refused code.BAD_LENGTH n 0)
 session_text replies at_bye = stream_of replies

@@ -1,4 +1,7 @@
-ghost use Rattle.std.specs.Prelude.{◌≤◌, ◌^◌};
+ghost use Rattle.std.specs.Prelude.{◌≤◌};
+ghost use Rattle.srv_edge.specs.declared.limit.TheConstants.{MOST_BLOCKS, MOST_BYTES, MOST_CALLS, MOST_NAME_BYTES, MOST_RECORDS};
+
+use crate::limit::{MOST_BLOCKS, MOST_BYTES, MOST_CALLS, MOST_NAME_BYTES, MOST_RECORDS};
 
 /// A call on the outside failed, and counted a fault.
 #[derive(Clone, Copy, Debug, PartialEq, Eq)]
@@ -17,23 +20,23 @@ pub struct Limits {
     pub calls: u32,
     /// Blocks of the file.
     pub blocks: u32,
-    pub ghost few_records: { records ≤ 2 ^ 23 },
-    pub ghost few_bytes: { bytes ≤ 2 ^ 30 },
-    pub ghost few_name_bytes: { name_bytes ≤ 2 ^ 28 },
+    pub ghost few_records: { records ≤ MOST_RECORDS },
+    pub ghost few_bytes: { bytes ≤ MOST_BYTES },
+    pub ghost few_name_bytes: { name_bytes ≤ MOST_NAME_BYTES },
     pub ghost some_name_bytes: { 1 ≤ name_bytes },
-    pub ghost few_calls: { calls ≤ 2 ^ 26 },
-    pub ghost few_blocks: { blocks ≤ 2 ^ 20 },
+    pub ghost few_calls: { calls ≤ MOST_CALLS },
+    pub ghost few_blocks: { blocks ≤ MOST_BLOCKS },
     pub ghost some_blocks: { 9 ≤ blocks },
 }
 
 impl Limits {
     /// What the program serves with: each number at its greatest.
     pub const STANDARD: Limits = Limits {
-        records: 8_388_608,
-        bytes: 1_073_741_824,
-        name_bytes: 268_435_456,
-        calls: 67_108_864,
-        blocks: 1_048_576,
+        records: MOST_RECORDS,
+        bytes: MOST_BYTES,
+        name_bytes: MOST_NAME_BYTES,
+        calls: MOST_CALLS,
+        blocks: MOST_BLOCKS,
     };
 }
 

@@ -4,12 +4,15 @@
 #![tactic(auto)]
 
 mod both;
+pub mod code;
 mod device;
 mod failed;
 mod faults;
 mod file;
 mod give;
+pub mod kind;
 mod laws;
+pub mod limit;
 mod link;
 mod memory;
 mod memory_device;
@@ -20,6 +23,7 @@ mod range;
 mod records;
 mod sink;
 mod source;
+pub mod space;
 mod standard;
 mod still;
 #[cfg(test)]

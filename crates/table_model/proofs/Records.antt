@@ -1,15 +1,16 @@
 -- One table of records: an add that was answered, and what it leaves.
-use Rattle.std.proofs.Common.{◌≡◌, ◌≤◌, ◌<◌, ◌^◌, ◌+◌, ◌==◌, ℕ, Bool, true, false, cond, ltb, List, [], ◌∷◌, ◌++◌, length, Option, Some, None, Ok, Err, ◌⊎◌, inl, inr, ⊎_elim, refl, sym, ap, ◌∙◌, subst, arith, length-append}
+use Rattle.std.proofs.Common.{◌≡◌, ◌≤◌, ◌<◌, ◌^◌, ◌+◌, ◌-◌, ◌==◌, ℕ, Bool, true, false, cond, ltb, List, [], ◌∷◌, ◌++◌, length, Option, Some, None, Ok, Err, ◌⊎◌, inl, inr, ⊎_elim, refl, sym, ap, ◌∙◌, subst, arith, length-append}
 use Rattle.std.specs.Prelude.{◌&&◌, is_ok, is_none}
+use Rattle.std.specs.List.{slice_get}
 use Rattle.std.specs.Option.{option_map, unwrap_or}
-use Rattle.std.proofs.lemmas.Bool.{cond-true, cond-false, eq-eqb, ne_eqb, ltb-true, ltb-false}
+use Rattle.std.proofs.lemmas.Bool.{cond-true, cond-false, eq-eqb, le-ltb, ne_eqb, ltb-true, ltb-false}
 use Rattle.std.proofs.lemmas.List.{append-nil}
 use Rattle.srv_edge.specs.Records.{joined}
 use Rattle.record_table.specs.declared.fault.AddFault.TheVariants.{Records, Bytes}
-use Rattle.record_table.specs.Table.{Table, after_add, answer_to_add, answer_to_new, appended, bytes_in, index_at, index_of, place_of}
+use Rattle.record_table.specs.Table.{Table, after_add, answer_to_add, answer_to_new, appended, bytes_in, index_at, index_of, place_of, record_at}
 use Rattle.table_model.specs.Tables.{WithinLimits}
 use Rattle.table_model.proofs.Counting.{place_of-within}
-use Rattle.table_model.proofs.Searching.{found_behind, place_on}
+use Rattle.table_model.proofs.Searching.{found_behind, found_there, place_on}
 
 -- adds
 
@@ -43,6 +44,13 @@ old_below t r at e =
     let p = same_index (place_of t.records r) at e in
     let l : p.0 < length t.records = place_of-within t.records r p.0 p.1 in
     omega arith
+
+-- what stands at an index that was found
+pub record_there : (t : Table) (r : List ℕ) (at : ℕ) → index_of t r ≡ Some at → record_at t at ≡ Some r
+record_there t r at e =
+    let p = same_index (place_of t.records r) at e in
+    let place : at - 4096 ≡ p.0 = omega (arith, p.2) in
+    cond-false (ltb at 4096) None (slice_get t.records (at - 4096)) (le-ltb at 4096 (omega (arith, p.2))) ∙ ap (slice_get t.records) place ∙ found_there t.records r p.0 p.1
 
 -- the table with the record, where its index is the next
 abbrev pub grown : Table → ℕ → List ℕ → Table

@@ -6,7 +6,7 @@ use Rattle.std.specs.Str.{bytes_eq}
 use Rattle.std.proofs.lemmas.Bool.{cond-true, cond-false, eq-eqb, ne_eqb, ltb-false}
 use Rattle.std.proofs.lemmas.Slice.Eq.{bytes_eq-Decides}
 use Rattle.names_table.specs.declared.fault.NameFault.TheVariants.{Full}
-use Rattle.names_table.specs.Names.{Names, after_add, answer_to_add, answer_to_new, bytes_of, needed_for, offset_from, offset_of}
+use Rattle.names_table.specs.Names.{Names, after_add, answer_to_add, answer_to_new, bytes_of, name_at, name_from, needed_for, offset_from, offset_of}
 use Rattle.table_model.proofs.Counting.{bytes_of-push, some-bytes}
 
 -- offsets
@@ -116,3 +116,22 @@ offset_after t name at e = ⊎_elim (λ (o : offset_of t name ≡ Some at). offs
 -- why an add was refused
 pub no_room : (t : Names) (name : List ℕ) (needed : ℕ) → answer_to_add t name ≡ Err (Full needed) → t.max_bytes < bytes_of t.names + length name + 1
 no_room t name needed e = grind arith
+
+-- what stands at an offset that was found
+
+there_from : (start : ℕ) (names : List (List ℕ)) (name : List ℕ) (at : ℕ) → offset_from start names name ≡ Some at → (start ≤ at) × (name_from start names at ≡ Some name)
+there_from start [] name at e = absurd cc
+there_from start (x ∷ names) name at e = go (bytes_eq x name) refl (there_from (start + length x + 1) names name at) e where
+  go : (t : Bool) → bytes_eq x name ≡ t → (offset_from (start + length x + 1) names name ≡ Some at → (start + length x + 1 ≤ at) × (name_from (start + length x + 1) names at ≡ Some name))
+      → cond t (Some start) (offset_from (start + length x + 1) names name) ≡ Some at → (start ≤ at) × (name_from start (x ∷ names) at ≡ Some name)
+  go true same h e =
+      let first : start ≡ at = cc in
+      (omega arith, cond-true (start == at) (Some x) (name_from (start + length x + 1) names at) (eq-eqb start at first) ∙ ap Some ((bytes_eq-Decides x name).0 same))
+  go false other h e =
+      let rest = h e in
+      (omega (arith, rest.0), cond-false (start == at) (Some x) (name_from (start + length x + 1) names at) (ne_eqb start at (λ s. omega (arith, s, rest.0))) ∙ rest.1)
+
+pub name_there : (t : Names) (name : List ℕ) (at : ℕ) → offset_of t name ≡ Some at → name_at t at ≡ Some name
+name_there t [] at e = let first : 0 ≡ at = cc in cond-true (at == 0) (Some []) (name_from 1 t.names at) (eq-eqb at 0 (sym first))
+name_there t (b ∷ name) at e =
+    let there = there_from 1 t.names (b ∷ name) at e in cond-false (at == 0) (Some []) (name_from 1 t.names at) (ne_eqb at 0 (λ s. omega (arith, s, there.0))) ∙ there.1

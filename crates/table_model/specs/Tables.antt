@@ -1,5 +1,5 @@
 -- The one-thread table: what an add answers, and the tables that it leaves.
-use Rattle.std.specs.Prelude.{◌≤◌, ℕ, Bool, ◌&&◌, List, length, Option, Some, None, is_none, Result, Ok, Err, is_ok, if◌then◌else◌}
+use Rattle.std.specs.Prelude.{IsTrue, ◌≤◌, ℕ, Bool, ◌&&◌, List, [], length, Option, Some, None, is_none, Result, Ok, Err, is_ok, if◌then◌else◌}
 use Rattle.leaf_grammar.specs.declared.grammar.Space.{Space}
 use Rattle.leaf_grammar.specs.declared.grammar.Space.TheVariants.{Types, Items}
 use Rattle.leaf_grammar.specs.declared.grammar.Leaf.{Leaf}
@@ -12,6 +12,10 @@ use Rattle.record_table.specs.Table as records
 use Rattle.names_table.specs.declared.fault.NameFault.{NameFault}
 use Rattle.names_table.specs.declared.fault.NameFault.TheVariants as name_fault
 use Rattle.names_table.specs.Names as strings
+use Rattle.srv_edge.specs.declared.limit.TheConstants as limit
+use Rattle.srv_edge.specs.declared.space.TheConstants as space
+use Rattle.srv_edge.specs.Growth.{AnswersOrWants}
+use Rattle.srv_edge.specs.declared.failed.Limits.{Limits}
 use Rattle.srv_edge.specs.declared.failed.Refusal.{Refusal}
 use Rattle.srv_edge.specs.declared.failed.Refusal.TheVariants.{Malformed, NotGiven, Full, OutOfMemory}
 
@@ -26,6 +30,21 @@ pub record WithinLimits (table : records.Table) : Type 0 where
   pub few : length table.records ≤ table.max_records
   pub short : records.bytes_in table ≤ table.max_bytes
 
+-- a table of these records within limits
+abbrev pub table_within : Limits → List (List ℕ) → records.Table
+table_within limits list = record { max_records = limits.records; max_bytes = limits.bytes; records = list }
+
+-- a table of these names within limits, whose hashes have the first version
+abbrev pub names_within : Limits → List (List ℕ) → strings.Names
+names_within limits list = record { max_bytes = limits.name_bytes; version = 1; names = list }
+
+abbrev pub tables_within : Limits → List (List ℕ) → List (List ℕ) → List (List ℕ) → Tables
+tables_within limits types items names = record { types = table_within limits types; items = table_within limits items; names = names_within limits names }
+
+-- tables of nothing yet
+abbrev pub empty_tables : Limits → Tables
+empty_tables limits = tables_within limits [] [] []
+
 -- how many types there are, and how many items
 abbrev pub type_count : Tables → ℕ
 type_count x = length x.types.records
@@ -35,14 +54,14 @@ item_count x = length x.items.records
 
 -- the number of a space in a refusal
 abbrev pub space_number : Space → ℕ
-space_number Types = 0
-space_number Items = 1
+space_number Types = space.TYPES
+space_number Items = space.ITEMS
 
 -- what an add of a record answers after the judgement of its bytes and its fields
 abbrev pub answer_of_add : Result ℕ AddFault → ℕ → Result ℕ Refusal
 answer_of_add (Ok index) most = Ok index
-answer_of_add (Err add_fault.Records) most = Err (Full 1 most)
-answer_of_add (Err (add_fault.Bytes needed)) most = Err (Full 2 needed)
+answer_of_add (Err add_fault.Records) most = Err (Full limit.RECORDS most)
+answer_of_add (Err (add_fault.Bytes needed)) most = Err (Full limit.BYTES needed)
 answer_of_add (Err add_fault.OutOfMemory) most = Err OutOfMemory
 
 -- what an add answers to a leaf: the first field that names nothing, or what the table says
@@ -75,8 +94,19 @@ record_grows space table types items r = comes_to_table space types items r && r
 -- the offset of a name, or why it has none
 abbrev pub answer_of_name : Result ℕ NameFault → Result ℕ Refusal
 answer_of_name (Ok offset) = Ok offset
-answer_of_name (Err (name_fault.Full needed)) = Err (Full 3 needed)
+answer_of_name (Err (name_fault.Full needed)) = Err (Full limit.NAMES needed)
 answer_of_name (Err name_fault.OutOfMemory) = Err OutOfMemory
 
 abbrev pub answer_to_name : strings.Names → List ℕ → Result ℕ Refusal
 answer_to_name names name = answer_of_name (strings.answer_to_add names name)
+
+-- An add of a record, where there are so many types and items, answers so and leaves that table; or it wants memory, where
+-- the table would grow.
+abbrev pub AddsRecord : Space → ℕ → ℕ → records.Table → List ℕ → Result ℕ Refusal → records.Table → Type 0
+AddsRecord space types items old r result new =
+    AnswersOrWants (Err OutOfMemory) (IsTrue (record_grows space old types items r)) (answer_to_record space old types items r) (table_after space old types items r) result old new
+
+-- the same of a name
+abbrev pub AddsName : strings.Names → List ℕ → Result ℕ Refusal → strings.Names → Type 0
+AddsName old name result new =
+    AnswersOrWants (Err OutOfMemory) (IsTrue (strings.appends old name)) (answer_to_name old name) (strings.after_add old name) result old new

@@ -1,12 +1,13 @@
-ghost use Rattle.std.specs.Prelude.{◌≡◌, ◌≤◌, ◌^◌, ◌⊎◌, Err, IsTrue};
-ghost use Rattle.names_table.specs.Names.{IsName, after_add as names_after, appends as name_appends};
-ghost use Rattle.table_model.specs.Tables.{answer_to_name, answer_to_record, record_grows, space_number, table_after};
+ghost use Rattle.std.specs.Prelude.{◌≡◌, ◌≤◌};
+ghost use Rattle.names_table.specs.Names.{IsName};
+ghost use Rattle.srv_edge.specs.declared.limit.TheConstants.{MOST_RECORDS};
+ghost use Rattle.table_model.specs.Tables.{AddsName, AddsRecord, space_number};
 
 use index_fields::first_missing;
 use leaf_grammar::{Space, check};
 use names_table::{NameFault, NamesTable};
 use record_table::{AddFault, RecordTable};
-use srv_edge::Refusal;
+use srv_edge::{Refusal, limit, space};
 
 /// Judges a record of a space and its fields, where there are so many types and items, and adds it to the
 /// table of its space. A refused record leaves the table.
@@ -17,12 +18,9 @@ pub fn add_record(
     items: u32,
     bytes: &[u8],
 ) -> Result<u32, Refusal>
-    requires types { types ≤ 2 ^ 23 }
-    requires items { items ≤ 2 ^ 23 }
-    ensures answer { (result ≡ answer_to_record space table.old types items bytes.now) ⊎ (result ≡ Err Refusal.OutOfMemory) }
-    ensures after { (result ≡ Err Refusal.OutOfMemory) ⊎ (table.new ≡ table_after space table.old types items bytes.now) }
-    ensures no_memory { result ≡ Err Refusal.OutOfMemory → IsTrue (record_grows space table.old types items bytes.now) }
-    ensures kept { result ≡ Err Refusal.OutOfMemory → table.new ≡ table.old }
+    requires types { types ≤ MOST_RECORDS }
+    requires items { items ≤ MOST_RECORDS }
+    ensures { AddsRecord space types items table.old bytes.now result table.new }
 {
     if let Err(wrong) = check(space, bytes) {
         return Err(Refusal::Malformed {
@@ -39,10 +37,13 @@ pub fn add_record(
     match table.add(bytes) {
         Ok(index) => Ok(index),
         Err(AddFault::Records) => Err(Refusal::Full {
-            which: 1,
+            which: limit::RECORDS,
             needed: table.max_records(),
         }),
-        Err(AddFault::Bytes { needed }) => Err(Refusal::Full { which: 2, needed }),
+        Err(AddFault::Bytes { needed }) => Err(Refusal::Full {
+            which: limit::BYTES,
+            needed,
+        }),
         Err(AddFault::OutOfMemory) => Err(Refusal::OutOfMemory),
     }
 }
@@ -50,14 +51,14 @@ pub fn add_record(
 /// Adds a name. A refused name leaves the table.
 pub fn add_name(names: &mut NamesTable, name: &[u8]) -> Result<u32, Refusal>
     requires { IsName name.now }
-    ensures answer { (result ≡ answer_to_name names.old name.now) ⊎ (result ≡ Err Refusal.OutOfMemory) }
-    ensures after { (result ≡ Err Refusal.OutOfMemory) ⊎ (names.new ≡ names_after names.old name.now) }
-    ensures no_memory { result ≡ Err Refusal.OutOfMemory → IsTrue (name_appends names.old name.now) }
-    ensures kept { result ≡ Err Refusal.OutOfMemory → names.new ≡ names.old }
+    ensures { AddsName names.old name.now result names.new }
 {
     match names.add(name) {
         Ok(offset) => Ok(offset),
-        Err(NameFault::Full { needed }) => Err(Refusal::Full { which: 3, needed }),
+        Err(NameFault::Full { needed }) => Err(Refusal::Full {
+            which: limit::NAMES,
+            needed,
+        }),
         Err(NameFault::OutOfMemory) => Err(Refusal::OutOfMemory),
     }
 }
@@ -67,7 +68,7 @@ pub(crate) fn number_of(space: Space) -> u8
     ensures { result ≡ space_number space }
 {
     match space {
-        Space::Types => 0,
-        Space::Items => 1,
+        Space::Types => space::TYPES,
+        Space::Items => space::ITEMS,
     }
 }

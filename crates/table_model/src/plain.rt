@@ -1,11 +1,11 @@
-ghost use Rattle.std.specs.Prelude.{◌≡◌, ◌≢◌, ◌≤◌, ◌<◌, ◌^◌, ◌⊎◌, ◌++◌, ◌∷◌, [], Err, IsSome, IsTrue, OnErr, OnOk, length};
+ghost use Rattle.std.specs.Prelude.{◌≡◌, ◌≢◌, ◌≤◌, ◌<◌, ◌^◌, ◌++◌, ◌∷◌, [], OnErr, OnOk, length};
 ghost use Rattle.std.specs.Option.{option_copied};
-ghost use Rattle.srv_edge.specs.Records.{joined};
-ghost use Rattle.record_table.specs.Table.{after_add, answer_to_add, appends};
-ghost use Rattle.names_table.specs.Names.{IsName, after_add as names_after, appends as name_appends, bytes_of};
-ghost use Rattle.table_model.specs.Tables.{WithinLimits, answer_to_name, answer_to_record, answer_of_add, record_grows, table_after};
-ghost use Rattle.table_model.specs.Calls.{answer, bytes_answer, index_answer, tables_after};
-ghost use Rattle.table_model.specs.Plain.{BringsName, MayWant, name_in, names_within, record_in, table_within, tables_within};
+ghost use Rattle.srv_edge.specs.declared.limit.TheConstants.{MOST_RECORDS, RECORD_BYTES};
+ghost use Rattle.srv_edge.specs.declared.space.TheConstants as spaces;
+ghost use Rattle.record_table.specs.Table.{record_in};
+ghost use Rattle.names_table.specs.Names.{IsName, bytes_of, name_in};
+ghost use Rattle.table_model.specs.Tables.{WithinLimits, empty_tables, table_within};
+ghost use Rattle.table_model.specs.Plain.{AddsLeaf, AddsToList, AddsToNames, AnswersCall, BringsName, Copies};
 
 use crate::add::number_of;
 use crate::call::{Call, Outcome};
@@ -13,7 +13,7 @@ use crate::search::{bytes_of, name_at, offset_of, place_of};
 use index_fields::first_missing;
 use leaf_grammar::{Space, check};
 use record_table::FIRST_INDEX;
-use srv_edge::{Limits, RecordList, Refusal, Text};
+use srv_edge::{Limits, RecordList, Refusal, Text, limit, space};
 use std::alloc::{AllocError, Global};
 use std::marker::Model;
 
@@ -28,8 +28,8 @@ pub struct PlainTable {
 }
 
 impl Model for PlainTable {
-    ghost use Rattle.table_model.specs.Tables.{Tables};
-    ghost use Rattle.table_model.specs.Plain.{AreKept, tables_within};
+    ghost use Rattle.table_model.specs.Tables.{Tables, tables_within};
+    ghost use Rattle.table_model.specs.Plain.{AreKept};
 
     ghost Value = { Tables };
 
@@ -41,7 +41,7 @@ impl Model for PlainTable {
 impl PlainTable {
     /// Empty tables. It takes no memory; what is added later comes from this allocator.
     pub fn new(alloc: Global, limits: Limits) -> PlainTable
-        ensures { result ≡ tables_within limits [] [] [] }
+        ensures { result ≡ empty_tables limits }
     {
         PlainTable {
             alloc,
@@ -55,10 +55,7 @@ impl PlainTable {
     /// Answers a call. An answer's bytes are a copy.
     pub fn answer(&mut self, call: &Call) -> Result<Outcome, Refusal>
         requires name { BringsName call.now }
-        ensures answer { (result ≡ answer self.old call.now) ⊎ (result ≡ Err Refusal.OutOfMemory) }
-        ensures after { (result ≡ Err Refusal.OutOfMemory) ⊎ (self.new ≡ tables_after self.old call.now) }
-        ensures no_memory { result ≡ Err Refusal.OutOfMemory → MayWant self.old call.now }
-        ensures kept { result ≡ Err Refusal.OutOfMemory → self.new ≡ self.old }
+        ensures { AnswersCall self.old call.now result self.new }
     {
         let types = self.types.len();
         let items = self.items.len();
@@ -86,8 +83,8 @@ impl PlainTable {
                 )
             }
             Call::AddName(name) => add_name(self.alloc, &mut self.names, self.limits, name.bytes()),
-            Call::GetType(index) => get_record(self.alloc, &self.types, 0, *index),
-            Call::GetItem(index) => get_record(self.alloc, &self.items, 1, *index),
+            Call::GetType(index) => get_record(self.alloc, &self.types, space::TYPES, *index),
+            Call::GetItem(index) => get_record(self.alloc, &self.items, space::ITEMS, *index),
             Call::GetName(offset) => get_name(self.alloc, &self.names, *offset),
             Call::Counts => Ok(Outcome::Counts(types, items, self.names.len() as u32)),
         }
@@ -103,13 +100,10 @@ fn add_record(
     items: u32,
     bytes: &[u8],
 ) -> Result<Outcome, Refusal>
-    requires types { types ≤ 2 ^ 23 }
-    requires items { items ≤ 2 ^ 23 }
+    requires types { types ≤ MOST_RECORDS }
+    requires items { items ≤ MOST_RECORDS }
     requires kept { WithinLimits (table_within limits list.old) }
-    ensures answer { (result ≡ index_answer (answer_to_record space (table_within limits list.old) types items bytes.now)) ⊎ (result ≡ Err Refusal.OutOfMemory) }
-    ensures after { (result ≡ Err Refusal.OutOfMemory) ⊎ (table_within limits list.new ≡ table_after space (table_within limits list.old) types items bytes.now) }
-    ensures no_memory { result ≡ Err Refusal.OutOfMemory → IsTrue (record_grows space (table_within limits list.old) types items bytes.now) }
-    ensures unchanged { result ≡ Err Refusal.OutOfMemory → list.new ≡ list.old }
+    ensures added { AddsToList limits space types items list.old bytes.now result list.new }
     ensures kept { WithinLimits (table_within limits list.new) }
 {
     if let Err(wrong) = check(space, bytes) {
@@ -130,11 +124,8 @@ fn add_record(
 // The index of the first equal record, or the record appended.
 fn add_leaf(list: &mut RecordList, limits: Limits, bytes: &[u8]) -> Result<u32, Refusal>
     requires kept { WithinLimits (table_within limits list.old) }
-    requires longest { length bytes.now ≤ 65536 }
-    ensures answer { (result ≡ answer_of_add (answer_to_add (table_within limits list.old) bytes.now) limits.records) ⊎ (result ≡ Err Refusal.OutOfMemory) }
-    ensures after { (result ≡ Err Refusal.OutOfMemory) ⊎ (table_within limits list.new ≡ after_add (table_within limits list.old) bytes.now) }
-    ensures no_memory { result ≡ Err Refusal.OutOfMemory → IsTrue (appends (table_within limits list.old) bytes.now) }
-    ensures unchanged { result ≡ Err Refusal.OutOfMemory → list.new ≡ list.old }
+    requires longest { length bytes.now ≤ RECORD_BYTES }
+    ensures added { AddsLeaf limits list.old bytes.now result list.new }
     ensures kept { WithinLimits (table_within limits list.new) }
 {
     if let Some(place) = place_of(list, bytes) {
@@ -142,13 +133,16 @@ fn add_leaf(list: &mut RecordList, limits: Limits, bytes: &[u8]) -> Result<u32, 
     }
     if list.len() >= limits.records {
         return Err(Refusal::Full {
-            which: 1,
+            which: limit::RECORDS,
             needed: limits.records,
         });
     }
     let needed = list.joined().len() as u32 + bytes.len() as u32;
     if needed > limits.bytes {
-        return Err(Refusal::Full { which: 2, needed });
+        return Err(Refusal::Full {
+            which: limit::BYTES,
+            needed,
+        });
     }
     let index = FIRST_INDEX + list.len();
     match list.push(bytes) {
@@ -166,10 +160,7 @@ fn add_name(
 ) -> Result<Outcome, Refusal>
     requires name { IsName name.now }
     requires kept { bytes_of names.old.items ≤ limits.name_bytes }
-    ensures answer { (result ≡ index_answer (answer_to_name (names_within limits names.old.items) name.now)) ⊎ (result ≡ Err Refusal.OutOfMemory) }
-    ensures after { (result ≡ Err Refusal.OutOfMemory) ⊎ (names_within limits names.new.items ≡ names_after (names_within limits names.old.items) name.now) }
-    ensures no_memory { result ≡ Err Refusal.OutOfMemory → IsTrue (name_appends (names_within limits names.old.items) name.now) }
-    ensures unchanged { result ≡ Err Refusal.OutOfMemory → names.new.items ≡ names.old.items }
+    ensures added { AddsToNames limits names.old.items name.now result names.new.items }
     ensures kept { bytes_of names.new.items ≤ limits.name_bytes }
 {
     if name.is_empty() {
@@ -181,7 +172,10 @@ fn add_name(
     let offset = bytes_of(names);
     let needed = offset + name.len() as u32 + 1;
     if needed > limits.name_bytes {
-        return Err(Refusal::Full { which: 3, needed });
+        return Err(Refusal::Full {
+            which: limit::NAMES,
+            needed,
+        });
     }
     match push_name(alloc, names, name) {
         Ok(()) => Ok(Outcome::Index(offset)),
@@ -198,26 +192,24 @@ fn push_name(alloc: Global, names: &mut Vec<Text>, name: &[u8]) -> Result<(), Al
     Ok(())
 }
 
-// The record at an index.
+// The record at an index, whatever the limits.
 fn get_record(alloc: Global, list: &RecordList, space: u8, index: u32) -> Result<Outcome, Refusal>
-    ensures answer { (result ≡ bytes_answer (record_in list.now index) (Refusal.NotGiven space index)) ⊎ (result ≡ Err Refusal.OutOfMemory) }
-    ensures no_memory { result ≡ Err Refusal.OutOfMemory → IsSome (record_in list.now index) }
+    ensures { Copies (record_in list.now index) (Refusal.NotGiven space index) result }
 {
     let missing = Refusal::NotGiven { space, index };
     if index < FIRST_INDEX {
         return Err(missing);
     }
-    copied(alloc, list.get(index - FIRST_INDEX), missing)
+    copy_of(alloc, list.get(index - FIRST_INDEX), missing)
 }
 
-// The name that begins at an offset: the empty one at 0.
+// The name that begins at an offset, whatever the limits: the empty one at 0.
 fn get_name(alloc: Global, names: &[Text], offset: u32) -> Result<Outcome, Refusal>
     requires { bytes_of names.now < 2 ^ 32 }
-    ensures answer { (result ≡ bytes_answer (name_in names.now offset) (Refusal.NotGiven 2 offset)) ⊎ (result ≡ Err Refusal.OutOfMemory) }
-    ensures no_memory { result ≡ Err Refusal.OutOfMemory → IsSome (name_in names.now offset) }
+    ensures { Copies (name_in names.now offset) (Refusal.NotGiven spaces.NAMES offset) result }
 {
     let missing = Refusal::NotGiven {
-        space: 2,
+        space: space::NAMES,
         index: offset,
     };
     let name = if offset == 0 {
@@ -225,14 +217,13 @@ fn get_name(alloc: Global, names: &[Text], offset: u32) -> Result<Outcome, Refus
     } else {
         name_at(names, offset)
     };
-    copied(alloc, name, missing)
+    copy_of(alloc, name, missing)
 }
 
 // A copy of what was found, or the refusal where nothing was.
-fn copied(alloc: Global, found: Option<&[u8]>, missing: Refusal) -> Result<Outcome, Refusal>
+fn copy_of(alloc: Global, found: Option<&[u8]>, missing: Refusal) -> Result<Outcome, Refusal>
     requires { missing ≢ Refusal.OutOfMemory }
-    ensures answer { (result ≡ bytes_answer (option_copied found.entry) missing) ⊎ (result ≡ Err Refusal.OutOfMemory) }
-    ensures no_memory { result ≡ Err Refusal.OutOfMemory → IsSome (option_copied found.entry) }
+    ensures { Copies (option_copied found.entry) missing result }
 {
     match found {
         Some(bytes) => match bytes.to_vec(alloc) {

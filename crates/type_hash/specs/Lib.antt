@@ -1,3 +1,2 @@
 pub mod Hash
-pub mod Texts
 pub mod Record

@@ -6,9 +6,7 @@ mod record;
 mod strings;
 #[cfg(test)]
 mod tests;
-mod texts;
 
 pub use crate::crc::buffer;
 pub use crate::record::of_record;
 pub use crate::strings::{string_v1, string_v2};
-pub use crate::texts::text;

@@ -17,4 +17,4 @@ returns-in-Full-fill-clause-next g c =
     let all : c.fill-2.new.piece ≡ word_bytes n ++ more = c.fill-2.ensures.came.1 ∙ ap (λ xs. xs ++ more) head in
     let count : length more ≡ n = omega (arith, ap length all, length-append (word_bytes n) more, length-word_bytes n, c.in-Full-fill.ensures.filled.0) in
     let whole = whole_frame n more count (omega (arith, c.if-length-eq0.false)) in
-    ((whole.frame, all ∙ whole.spelled, (omega (arith, whole.length, c.if-length-eq0.false), omega (arith, whole.length, c.if-length-gt-MOST.false))), c.in-Full-fill.ensures.filled.1)
+    ((whole.frame, all ∙ whole.spelled, (omega (arith, whole.length, c.if-length-eq0.false), omega (arith, whole.length, c.if-length-gt-FRAME_BYTES.false))), c.in-Full-fill.ensures.filled.1)

@@ -30,7 +30,6 @@ invariant_of-self c =
       within = grind arith;
       first = λ small. absurd (omega arith);
       room = order.room;
-      few_blank = order.few_blank;
       few_words = omega (arith, length-append (words_in full) page);
     }
 

@@ -1,0 +1,36 @@
+-- What a tag has room for.
+use Rattle.std.proofs.Common.{◌≡◌, ◌≤◌, ◌||◌, ℕ, Bool, true, false, eqb, eqb-true, List, [], ◌∷◌, length, Some, IsOk, refl, ap, ◌⊎◌, inl, inr}
+use Rattle.leaf_grammar.specs.declared.grammar.Space.TheVariants.{Types}
+use Rattle.leaf_grammar.specs.declared.grammar.Part.{Part}
+use Rattle.leaf_grammar.specs.Kinds.{parts_of, u16, flags16, type_index, numeric, text, unique_name}
+use Rattle.leaf_grammar.specs.Leaf.{kind_of, leaf_of}
+use Rattle.leaf_grammar.specs.Tag.{is_tag}
+use Rattle.leaf_grammar.proofs.Rooms.{number_first}
+
+or_cases : (a b : Bool) → (a || b) ≡ true → (a ≡ true) ⊎ (b ≡ true)
+or_cases true b h = inl refl
+or_cases false b h = inr h
+
+class_parts : List Part
+class_parts = flags16 ∷ type_index ∷ type_index ∷ type_index ∷ numeric ∷ text ∷ unique_name ∷ []
+
+-- the parts of a tag begin with the number of its members
+tag_parts : (kind : ℕ) → is_tag kind ≡ true → (rest : List Part) × (parts_of Types kind ≡ Some (u16 ∷ rest))
+unfolding parts_of class_parts
+tag_parts kind h =
+    elim (or_cases (eqb kind 0x1504 || eqb kind 0x1505 || eqb kind 0x1506 || eqb kind 0x1507) (eqb kind 0x1519) h) [
+      | inr e ↦ (class_parts, ap (parts_of Types) (eqb-true kind 0x1519 e))
+      | inl h' ↦ elim (or_cases (eqb kind 0x1504 || eqb kind 0x1505 || eqb kind 0x1506) (eqb kind 0x1507) h') [
+        | inr e ↦ (flags16 ∷ type_index ∷ type_index ∷ text ∷ unique_name ∷ [], ap (parts_of Types) (eqb-true kind 0x1507 e))
+        | inl h'' ↦ elim (or_cases (eqb kind 0x1504 || eqb kind 0x1505) (eqb kind 0x1506) h'') [
+          | inr e ↦ (flags16 ∷ type_index ∷ numeric ∷ text ∷ unique_name ∷ [], ap (parts_of Types) (eqb-true kind 0x1506 e))
+          | inl h''' ↦ elim (or_cases (eqb kind 0x1504) (eqb kind 0x1505) h''') [
+            | inr e ↦ (class_parts, ap (parts_of Types) (eqb-true kind 0x1505 e))
+            | inl e ↦ (class_parts, ap (parts_of Types) (eqb-true kind 0x1504 e))
+          ]
+        ]
+      ]
+    ]
+
+pub tag_room : (r : List ℕ) → is_tag (kind_of r) ≡ true → IsOk (leaf_of Types r) → 8 ≤ length r
+tag_room r t h = let p = tag_parts (kind_of r) t in number_first 1 Types r p.0 h p.1
