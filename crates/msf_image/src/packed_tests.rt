@@ -1,4 +1,4 @@
-use super::{is_packable, new_file, open_image};
+use super::{is_packable, new_file, new_image, open_image};
 use srv_edge::{MemDevice, Text};
 use std::alloc::{AllocError, Global};
 use std::test::Fail;
@@ -9,6 +9,15 @@ fn made(alloc: Global, block: u32, streams: &[Text]) -> Result<Vec<u8>, Fail> {
         return Err("a packed file can hold these streams".into());
     }
     Ok(new_file(alloc, block, streams)?)
+}
+
+// The block map of the packed file of these streams, and the blocks that it lists.
+fn listed_of(alloc: Global, block: u32, streams: &[Text]) -> Result<(u32, Vec<u32>), Fail> {
+    if !is_packable(block, streams) {
+        return Err("a packed file can hold these streams".into());
+    }
+    let new = new_image(alloc, block, streams)?;
+    Ok((new.image.head.map_addr, new.listed))
 }
 
 // A stream of a file, which is opened anew.
@@ -67,6 +76,9 @@ fn one_small_stream(rt: HostRuntime) -> Result<(), Fail> {
         [1, 2, 3].as_slice()
     );
     assert_eq!(rt; blocks_of(alloc, &file, 1)?.as_slice(), [3].as_slice());
+    let (map_addr, listed) = listed_of(alloc, 512, &two_streams(alloc)?)?;
+    assert_eq!(rt; map_addr, 5);
+    assert_eq!(rt; listed.as_slice(), [4].as_slice());
     Ok(())
 }
 
