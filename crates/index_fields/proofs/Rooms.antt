@@ -22,9 +22,3 @@ list_room width space r at h =
     let b = first_ok (bytes_on (size_of width) r at) (bytes_on (4 * number_at width r at) r) h in
     let room = bytes_room (4 * number_at width r at) r b.0 b.2 in
     omega (arith, bytes_on-is (size_of width) r at b.0 b.1, room)
-
-pub where_ok : (condition : Condition) (f : Form) (r : List ℕ) (c : Cursor) → says condition c.attributes ≡ true → IsOk (past (Where condition f) r c) → IsOk (form_end f r c.at)
-unfolding past
-where_ok condition f r c e h =
-    let P : Bool → Type 0 = λ b. IsOk (cond b (behind_form c (form_end f r c.at)) (Ok c)) in
-    form_ok f r c (subst P e h)

@@ -2,8 +2,8 @@ ghost use Rattle.std.specs.Prelude.{◌≡◌, ◌≤◌, ◌^◌, IsOk};
 ghost use Rattle.leaf_grammar.specs.Leaf.{leaf_of};
 ghost use Rattle.index_fields.specs.Fields.{missing};
 
+use crate::fields::each_field;
 use crate::visit::Visit;
-use crate::walk::each_field;
 use leaf_grammar::Space;
 
 /// The index of the first record of a space. Those below it are simple: they name no record.
