@@ -35,7 +35,8 @@ impl<'a, V: Visit> VisitForms for Fields<'a, V> {
     ghost use Rattle.leaf_grammar.specs.Visits.{Visits};
     ghost use Rattle.index_fields.specs.Fields.{fields_in};
 
-    ghost does = { λ r before p after. Visits V.does (fields_in p.form r p.at) before.visit.now after.visit.now };
+    ghost does = { λ r before p after.
+        Visits V.does (fields_in p.form r p.at) before.visit.now after.visit.now };
 
     ghost loans = { λ fields. fields.visit.ghost_name ∷ [] };
 

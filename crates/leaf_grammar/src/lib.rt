@@ -1,5 +1,5 @@
-//! Which records are leaves, and what stands in them: one walk over the parts of a record's kind, from
-//! left to right, with a visitor.
+//! Which records are leaves, and what stands in them: one walk over the parts of a record's kind,
+//! from left to right, with a visitor.
 #![tactic(auto)]
 
 mod grammar;

@@ -17,8 +17,8 @@ pub struct Tag<'a> {
     pub is_scoped: bool,
     /// Without its NUL.
     pub name: &'a [u8],
-    /// The text that tells it from all other tags, without its NUL. None where the attributes have no
-    /// bit 200 hex. It may be empty.
+    /// The text that tells it from all other tags, without its NUL. None where the attributes have
+    /// no bit 200 hex. It may be empty.
     pub unique_name: Option<&'a [u8]>,
 }
 

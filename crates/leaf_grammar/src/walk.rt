@@ -62,8 +62,8 @@ fn walk_content<V: VisitForms>(
     requires shortest { 4 ≤ length bytes.now }
     requires longest { length bytes.now ≤ 65536 }
     ensures end { result ≡ content_end (Some parts.now) rows bytes.now }
-    ensures visits { Visits (V.does bytes.now) (found_in_content placed (Some parts.now) rows bytes.now)
-        visit.old visit.new }
+    ensures visits { Visits (V.does bytes.now)
+        (found_in_content placed (Some parts.now) rows bytes.now) visit.old visit.new }
     ensures loans { V.loans visit.new ≡ V.loans visit.old }
 {
     let behind = walk_parts(parts, bytes, 4, visit)?;
@@ -101,8 +101,8 @@ fn walk_rows<V: VisitForms>(
     requires within { from ≤ length bytes.now }
     requires longest { length bytes.now ≤ 65536 }
     ensures end { result ≡ rows_end rows (length bytes.now) bytes.now from }
-    ensures visits { Visits (V.does bytes.now) (found_in_rows placed rows (length bytes.now) bytes.now from)
-        visit.old visit.new }
+    ensures visits { Visits (V.does bytes.now)
+        (found_in_rows placed rows (length bytes.now) bytes.now from) visit.old visit.new }
     ensures loans { V.loans visit.new ≡ V.loans visit.old }
 {
     let mut at = from;
