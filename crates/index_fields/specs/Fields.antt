@@ -1,5 +1,5 @@
 -- The index fields of a leaf, and the first that names nothing.
-use Rattle.std.specs.Prelude.{ℕ, zero, suc, ◌+◌, nat_lt, List, [], ◌∷◌, ◌++◌, length, drop, Option, Some, None, if◌then◌else◌}
+use Rattle.std.specs.Prelude.{ℕ, zero, suc, ◌+◌, nat_lt, List, [], ◌∷◌, drop, Option, Some, None, if◌then◌else◌}
 use Rattle.byteorder.specs.Endian.{little_number}
 use Rattle.leaf_grammar.specs.declared.grammar.Space.{Space}
 use Rattle.leaf_grammar.specs.declared.grammar.Space.TheVariants.{Types, Items}

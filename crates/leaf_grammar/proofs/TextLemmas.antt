@@ -1,6 +1,6 @@
 -- The places that a visitor keeps are those of the first two texts.
-use Rattle.std.proofs.Common.{◌≡◌, ℕ, Bool, true, false, cond, List, [], ◌∷◌, ◌++◌, slice_get, Option, Some, None, IsOk, refl, ap, sym, subst, ◌∙◌}
-use Rattle.std.specs.Prelude.{flat_map, unwrap_or}
+use Rattle.std.proofs.Common.{◌≡◌, ℕ, Bool, true, false, cond, List, [], ◌∷◌, ◌++◌, Option, Some, None, IsOk, refl, ap, sym, subst, ◌∙◌}
+use Rattle.std.specs.Prelude.{flat_map}
 use Rattle.leaf_grammar.specs.declared.grammar.Space.TheVariants.{Types}
 use Rattle.leaf_grammar.specs.declared.grammar.Form.{Form}
 use Rattle.leaf_grammar.specs.declared.grammar.Form.TheVariants as form

@@ -1,5 +1,5 @@
 -- A tag as the code returns it, and the places of its texts.
-use Rattle.std.specs.Prelude.{◌≡◌, ℕ, Bool, List, [], Option, Some, None, MatchOption, if◌then◌else◌}
+use Rattle.std.specs.Prelude.{◌≡◌, ℕ, List, [], Option, Some, None, MatchOption, if◌then◌else◌}
 use Rattle.std.specs.Option.{option_copied}
 use Rattle.leaf_grammar.specs.declared.tag.Tag.{Tag}
 use Rattle.leaf_grammar.specs.declared.tag.Texts.{Texts}

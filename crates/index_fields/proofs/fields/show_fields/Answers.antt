@@ -3,7 +3,6 @@ use Rattle.leaf_grammar.specs.Found.{forms_of}
 use Rattle.leaf_grammar.specs.Visits.{Visits}
 use Rattle.leaf_grammar.proofs.Flat.{in_placed}
 use Rattle.leaf_grammar.proofs.Visiting.{visits_flat}
-use Rattle.index_fields.specs.declared.fields.Fields.{Fields}
 use Rattle.index_fields.specs.Fields.{Field, fields_in}
 use Rattle.index_fields.proofs.Steps.{fields_flat}
 use Rattle.index_fields.proofs.fields.show_fields.Goals as goal
