@@ -7,7 +7,6 @@ use Rattle.std.proofs.lemmas.List.Elements.{All-from_recursion}
 use Rattle.byteorder.specs.Endian.{little_number}
 use Rattle.leaf_grammar.specs.declared.grammar.Space.{Space}
 use Rattle.leaf_grammar.specs.declared.grammar.Item.TheVariants as item
-use Rattle.leaf_grammar.specs.declared.grammar.Width.TheVariants.{TwoBytes}
 use Rattle.leaf_grammar.specs.declared.grammar.Form.{Form}
 use Rattle.leaf_grammar.specs.declared.grammar.Form.TheVariants as form
 use Rattle.leaf_grammar.specs.declared.grammar.Part.{Part}
@@ -18,13 +17,12 @@ use Rattle.leaf_grammar.specs.declared.grammar.Leaf.{Leaf}
 use Rattle.leaf_grammar.specs.declared.grammar.Malformed.{Malformed}
 use Rattle.leaf_grammar.specs.Kinds.{parts_of, rows_of}
 use Rattle.leaf_grammar.specs.Leaf.{◌>>=◌, content_end, cursor, has_length, kind_of, leaf, leaf_of, number_at, parts_end, past, row_at, row_end, says, size_of, wrong_length}
-use Rattle.leaf_grammar.specs.Spelled.{IsLeaf}
 use Rattle.leaf_grammar.specs.Found.{found_at, found_in, onwards}
 use Rattle.leaf_grammar.proofs.Further.{bind_ok}
 use Rattle.leaf_grammar.proofs.Rooms.{leaf_room}
 use Rattle.leaf_grammar.proofs.Leaves.{leaf_spelled}
 use Rattle.index_fields.specs.Fields.{Field, content_fields, field_at, fields_in, fields_of, parts_fields, row_fields, rows_fields, run_from, tail_fields}
-use Rattle.index_fields.specs.Places.{LieBetween, SameOutside, has_byte, places}
+use Rattle.index_fields.specs.Places.{LieBetween, SameOutside, places}
 use Rattle.index_fields.proofs.Lying.{lie_content, lie_le, lie_to, none_before}
 use Rattle.index_fields.proofs.Rewriting.{Agree, content_too, two_too}
 

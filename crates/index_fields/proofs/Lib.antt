@@ -1,4 +1,3 @@
-pub mod Visiting
 pub mod Rooms
 pub mod Steps
 pub mod SeenLemmas

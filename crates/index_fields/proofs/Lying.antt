@@ -1,10 +1,7 @@
 -- The index fields of a leaf lie one behind another.
 use Rattle.std.proofs.Common.{◌≡◌, ◌≤◌, ◌<◌, ◌+◌, ◌*◌, ◌&&◌, ◌||◌, ℕ, zero, suc, Bool, true, false, cond, ltb, leb, le-ltb, List, [], ◌∷◌, ◌++◌, length, Option, Some, None, Ok, refl, ap, subst, sym, ◌∙◌, arith}
 use Rattle.std.proofs.lemmas.Bool.{lt-leb}
-use Rattle.std.specs.List.{AllByRecursion}
-use Rattle.byteorder.specs.Endian.{little_number}
 use Rattle.leaf_grammar.specs.declared.grammar.Space.{Space}
-use Rattle.leaf_grammar.specs.declared.grammar.Width.{Width}
 use Rattle.leaf_grammar.specs.declared.grammar.Item.TheVariants as item
 use Rattle.leaf_grammar.specs.declared.grammar.Form.{Form}
 use Rattle.leaf_grammar.specs.declared.grammar.Form.TheVariants as form
@@ -12,11 +9,10 @@ use Rattle.leaf_grammar.specs.declared.grammar.Part.{Part}
 use Rattle.leaf_grammar.specs.declared.grammar.Part.TheVariants.{Always, Where, Attributes}
 use Rattle.leaf_grammar.specs.declared.grammar.Rows.{Rows}
 use Rattle.leaf_grammar.specs.declared.grammar.Cursor.{Cursor}
-use Rattle.leaf_grammar.specs.declared.grammar.Malformed.{Malformed}
-use Rattle.leaf_grammar.specs.Leaf.{◌>>=◌, bytes_on, behind_form, content_end, cursor, form_end, items_size, long_rest, number_at, past, parts_end, row_at, row_end, rows_end, says, size_of, tail_end}
+use Rattle.leaf_grammar.specs.Leaf.{◌>>=◌, bytes_on, behind_form, content_end, cursor, form_end, long_rest, number_at, past, parts_end, row_at, row_end, rows_end, says, size_of, tail_end}
 use Rattle.leaf_grammar.specs.Found.{found_at, found_in, onwards}
-use Rattle.leaf_grammar.proofs.Further.{bind_ok, bytes_on-is, else_is, form_on, past_on, row_at_on}
-use Rattle.index_fields.specs.Fields.{Field, content_fields, field_at, fields_in, parts_fields, row_fields, rows_fields, run_from, tail_fields}
+use Rattle.leaf_grammar.proofs.Further.{bind_ok, bytes_on-is, else_is, form_on, row_at_on}
+use Rattle.index_fields.specs.Fields.{Field, content_fields, fields_in, parts_fields, row_fields, rows_fields, run_from, tail_fields}
 use Rattle.index_fields.specs.Places.{LieBetween, has_byte}
 
 pub lie_le : (from end : ℕ) (fields : List Field) → LieBetween from end fields → from ≤ end

@@ -1,9 +1,8 @@
 -- A record that differs from a leaf only at its index fields is a leaf with fields at the same places.
-use Rattle.std.proofs.Common.{◌≡◌, ◌≤◌, ◌<◌, ◌+◌, ◌-◌, ◌*◌, ◌%◌, ◌&&◌, ℕ, zero, suc, Bool, true, false, cond, eqb, ltb, lt-ltb, not, List, [], ◌∷◌, ◌++◌, length, drop, map, get_or, Option, Some, None, Result, Ok, Err, refl, ap, subst, sym, ◌∙◌, arith}
+use Rattle.std.proofs.Common.{◌≡◌, ◌≤◌, ◌<◌, ◌+◌, ◌-◌, ◌*◌, ℕ, zero, suc, Bool, true, false, cond, eqb, ltb, lt-ltb, List, [], ◌∷◌, ◌++◌, length, drop, get_or, Option, Some, None, Result, Ok, Err, refl, ap, subst, sym, ◌∙◌, arith}
 use Rattle.std.proofs.lemmas.Bool.{ltb-true}
 use Rattle.std.proofs.lemmas.List.{get_or-drop, map-append}
 use Rattle.std.proofs.lemmas.List.Prefix.{at_from_reads, at_reads}
-use Rattle.byteorder.specs.Endian.{little_number}
 use Rattle.leaf_grammar.specs.declared.grammar.Space.{Space}
 use Rattle.leaf_grammar.specs.declared.grammar.Width.{Width}
 use Rattle.leaf_grammar.specs.declared.grammar.Width.TheVariants.{TwoBytes}
@@ -15,19 +14,17 @@ use Rattle.leaf_grammar.specs.declared.grammar.Part.TheVariants.{Always, Where, 
 use Rattle.leaf_grammar.specs.declared.grammar.Rows.{Rows}
 use Rattle.leaf_grammar.specs.declared.grammar.Rows.TheVariants.{Members, Methods}
 use Rattle.leaf_grammar.specs.declared.grammar.Cursor.{Cursor}
-use Rattle.leaf_grammar.specs.declared.grammar.Leaf.{Leaf}
 use Rattle.leaf_grammar.specs.declared.grammar.Malformed.{Malformed}
-use Rattle.leaf_grammar.specs.Kinds.{method_parts, parts_of, parts_of_member, rows_of}
-use Rattle.leaf_grammar.specs.Leaf.{◌>>=◌, bytes_on, behind_form, content_end, cursor, form_end, has_length, items_size, kind_of, leaf, leaf_of, long_rest, member_row, number_at, pad_row, past, parts_end, Row, row, row_at, row_end, rows_end, says, size_of, tail_end, too_short, wrong_length, wrong_member}
-use Rattle.leaf_grammar.specs.Spelled.{SpellsForm}
-use Rattle.leaf_grammar.specs.Found.{found_at, found_in, onwards}
-use Rattle.leaf_grammar.proofs.Further.{bind_ok, bytes_on-is, members_at_further, row_at_on, row_further}
-use Rattle.leaf_grammar.proofs.Standing.{Stands, Piece, then_case, bytes_piece, bytes_whole, number_there}
+use Rattle.leaf_grammar.specs.Kinds.{parts_of_member}
+use Rattle.leaf_grammar.specs.Leaf.{◌>>=◌, bytes_on, behind_form, content_end, cursor, form_end, long_rest, member_row, number_at, pad_row, past, parts_end, Row, row, row_at, row_end, rows_end, says, size_of, tail_end, too_short, wrong_member}
+use Rattle.leaf_grammar.specs.Found.{found_at, onwards}
+use Rattle.leaf_grammar.proofs.Further.{bind_ok, bytes_on-is, members_at_further, row_at_on}
+use Rattle.leaf_grammar.proofs.Standing.{Stands, then_case, bytes_piece, number_there}
 use Rattle.leaf_grammar.proofs.Spelling.{form_piece, part_piece, parts_piece, row_piece}
 use Rattle.leaf_grammar.proofs.Reading.{form_whole, then_ok}
-use Rattle.index_fields.specs.Fields.{Field, content_fields, field_at, fields_in, fields_of, parts_fields, row_fields, rows_fields, run_from, tail_fields}
+use Rattle.index_fields.specs.Fields.{Field, content_fields, fields_in, parts_fields, row_fields, rows_fields, run_from, tail_fields}
 use Rattle.index_fields.specs.Places.{LieBetween, has_byte, places}
-use Rattle.index_fields.proofs.Lying.{content_behind, fields_behind, lie_content, lie_form, lie_le, lie_part, lie_parts, lie_row, lie_rows, lie_run, lie_tail, none_before, none_behind, none_of_both, rows_behind}
+use Rattle.index_fields.proofs.Lying.{content_behind, fields_behind, lie_le, lie_part, lie_parts, lie_row, lie_rows, lie_run, lie_tail, none_before, none_behind, none_of_both, rows_behind}
 
 -- Two records have as many bytes, and between two places the same ones outside of fields.
 pub record Agree (r s : List ℕ) (from end : ℕ) (fields : List Field) : Type 0 where

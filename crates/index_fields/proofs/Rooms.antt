@@ -1,16 +1,12 @@
 -- What was read as a leaf has room for its index fields.
-use Rattle.std.proofs.Common.{◌≡◌, ◌≤◌, ◌+◌, ◌*◌, ℕ, Bool, true, cond, List, length, Ok, IsOk, subst, arith}
+use Rattle.std.proofs.Common.{◌≤◌, ◌+◌, ◌*◌, ℕ, List, length, IsOk, arith}
 use Rattle.leaf_grammar.specs.declared.grammar.Space.{Space}
 use Rattle.leaf_grammar.specs.declared.grammar.Width.{Width}
 use Rattle.leaf_grammar.specs.declared.grammar.Item.TheVariants as item
-use Rattle.leaf_grammar.specs.declared.grammar.Form.{Form}
 use Rattle.leaf_grammar.specs.declared.grammar.Form.TheVariants as form
-use Rattle.leaf_grammar.specs.declared.grammar.Condition.{Condition}
-use Rattle.leaf_grammar.specs.declared.grammar.Part.TheVariants.{Where}
-use Rattle.leaf_grammar.specs.declared.grammar.Cursor.{Cursor}
-use Rattle.leaf_grammar.specs.Leaf.{bytes_on, form_end, size_of, number_at, behind_form, past, says}
+use Rattle.leaf_grammar.specs.Leaf.{bytes_on, form_end, size_of, number_at}
 use Rattle.leaf_grammar.proofs.Further.{bytes_on-is}
-use Rattle.leaf_grammar.proofs.Rooms.{first_ok, bytes_room, form_ok}
+use Rattle.leaf_grammar.proofs.Rooms.{first_ok, bytes_room}
 
 pub index_room : (space : Space) (r : List ℕ) (at : ℕ) → IsOk (form_end (form.Index space) r at) → at + 4 ≤ length r
 unfolding form_end
@@ -22,9 +18,3 @@ list_room width space r at h =
     let b = first_ok (bytes_on (size_of width) r at) (bytes_on (4 * number_at width r at) r) h in
     let room = bytes_room (4 * number_at width r at) r b.0 b.2 in
     omega (arith, bytes_on-is (size_of width) r at b.0 b.1, room)
-
-pub where_ok : (condition : Condition) (f : Form) (r : List ℕ) (c : Cursor) → says condition c.attributes ≡ true → IsOk (past (Where condition f) r c) → IsOk (form_end f r c.at)
-unfolding past
-where_ok condition f r c e h =
-    let P : Bool → Type 0 = λ b. IsOk (cond b (behind_form c (form_end f r c.at)) (Ok c)) in
-    form_ok f r c (subst P e h)

@@ -3,7 +3,7 @@ use Rattle.std.proofs.Common.{◌≡◌, ◌+◌, ℕ, Bool, true, false, cond, 
 use Rattle.leaf_grammar.specs.declared.grammar.Space.{Space}
 use Rattle.index_fields.specs.declared.missing.Seen.{Seen}
 use Rattle.index_fields.specs.Fields.{Field, missing_among, count_in}
-use Rattle.index_fields.specs.Visits.{Visits}
+use Rattle.leaf_grammar.specs.Visits.{Visits}
 use Rattle.index_fields.specs.Seen.{first_of, seen_with}
 
 first_of-None : (m : Option (Space × ℕ)) → first_of m None ≡ m

@@ -1,5 +1,5 @@
 -- The index fields of a leaf, and the first that names nothing.
-use Rattle.std.specs.Prelude.{ℕ, zero, suc, ◌+◌, nat_lt, List, [], ◌∷◌, ◌++◌, length, drop, Option, Some, None, if◌then◌else◌}
+use Rattle.std.specs.Prelude.{ℕ, zero, suc, ◌+◌, nat_lt, List, [], ◌∷◌, drop, Option, Some, None, if◌then◌else◌}
 use Rattle.byteorder.specs.Endian.{little_number}
 use Rattle.leaf_grammar.specs.declared.grammar.Space.{Space}
 use Rattle.leaf_grammar.specs.declared.grammar.Space.TheVariants.{Types, Items}
@@ -10,8 +10,8 @@ use Rattle.leaf_grammar.specs.declared.grammar.Part.{Part}
 use Rattle.leaf_grammar.specs.declared.grammar.Rows.{Rows}
 use Rattle.leaf_grammar.specs.declared.grammar.Cursor.{Cursor}
 use Rattle.leaf_grammar.specs.Kinds.{parts_of, rows_of}
-use Rattle.leaf_grammar.specs.Leaf.{size_of, number_at, cursor, parts_end, row_at, row_end, kind_of}
-use Rattle.leaf_grammar.specs.Found.{onwards, found_in}
+use Rattle.leaf_grammar.specs.Leaf.{size_of, number_at, kind_of}
+use Rattle.leaf_grammar.specs.Found.{found_behind, found_in, found_in_content, found_in_row, found_in_rows}
 
 -- an index field: the space that it names, its offset from the record's first byte, its value
 pub record Field : Type 0 where
@@ -43,22 +43,17 @@ parts_fields parts r c = found_in fields_in parts r c
 
 -- the index fields of the member or method that stands at a place
 abbrev pub row_fields : Rows → List ℕ → ℕ → List Field
-row_fields rows r at = onwards (row_at rows r at) (λ row. parts_fields row.parts r (cursor row.at 0))
+row_fields rows r at = found_in_row fields_in rows r at
 
 -- the index fields of the rows that stand from a place to the end, of which there are at most so many
 abbrev pub rows_fields : Rows → ℕ → List ℕ → ℕ → List Field
-rows_fields rows zero r at = []
-rows_fields rows (suc n) r at =
-    if nat_lt at (length r) then row_fields rows r at ++ onwards (row_end rows r at) (rows_fields rows n r) else []
+rows_fields rows n r at = found_in_rows fields_in rows n r at
 
 abbrev pub tail_fields : Option Rows → List ℕ → ℕ → List Field
-tail_fields None r at = []
-tail_fields (Some rows) r at = rows_fields rows (length r) r at
+tail_fields rows r at = found_behind fields_in rows r at
 
 abbrev pub content_fields : Option (List Part) → Option Rows → List ℕ → List Field
-content_fields None rows r = []
-content_fields (Some parts) rows r =
-    parts_fields parts r (cursor 4 0) ++ onwards (parts_end parts r (cursor 4 0)) (tail_fields rows r)
+content_fields parts rows r = found_in_content fields_in parts rows r
 
 -- the index fields of a leaf, from left to right
 unfoldable pub fields_of : Space → List ℕ → List Field

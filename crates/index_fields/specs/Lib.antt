@@ -1,4 +1,3 @@
 pub mod Fields
-pub mod Visits
 pub mod Seen
 pub mod Places

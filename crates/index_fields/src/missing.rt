@@ -2,14 +2,14 @@ ghost use Rattle.std.specs.Prelude.{◌≡◌, ◌≤◌, ◌^◌, IsOk};
 ghost use Rattle.leaf_grammar.specs.Leaf.{leaf_of};
 ghost use Rattle.index_fields.specs.Fields.{missing};
 
+use crate::fields::each_field;
 use crate::visit::Visit;
-use crate::walk::each_field;
 use leaf_grammar::Space;
 
 /// The index of the first record of a space. Those below it are simple: they name no record.
 const FIRST_INDEX: u32 = 0x1000;
 
-/// The first index field of a leaf that names no record, where a session has so many types and items.
+/// The first index field of a leaf that names no record, where there are so many types and items.
 pub fn first_missing(space: Space, bytes: &[u8], types: u32, items: u32) -> Option<(Space, u32)>
     requires leaf { IsOk (leaf_of space bytes.now) }
     requires types { types ≤ 2 ^ 23 }

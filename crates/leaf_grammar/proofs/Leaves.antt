@@ -1,6 +1,6 @@
 -- A record is read as a leaf exactly where it is spelled as one.
-use Rattle.std.proofs.Common.{◌≡◌, ◌≤◌, ◌<◌, ◌+◌, ◌-◌, ◌%◌, ◌&&◌, ℕ, Bool, true, false, cond, eqb, eqb-true, eq-eqb, ltb, le-ltb, not, List, [], ◌∷◌, ◌++◌, length, drop, take, Option, Some, None, Result, Ok, Err, refl, ap, sym, subst, ◌∙◌, arith, append_assoc, length-append, length-drop}
-use Rattle.std.proofs.lemmas.Bool.{and_parts, ltb-true, ltb-false}
+use Rattle.std.proofs.Common.{◌≡◌, ◌≤◌, ◌+◌, ◌-◌, ◌%◌, ◌&&◌, ℕ, Bool, true, false, cond, eqb, eq-eqb, ltb, le-ltb, not, List, [], ◌++◌, length, drop, take, Option, Some, None, Result, Ok, Err, refl, ap, sym, subst, ◌∙◌, arith, length-append, length-drop}
+use Rattle.std.proofs.lemmas.Bool.{ltb-false}
 use Rattle.std.proofs.lemmas.Grind.{common_steps}
 use Rattle.std.proofs.lemmas.List.{append-nil, drop-drop, drop_at, length-take-le, take-append-drop}
 use Rattle.byteorder.specs.Endian.{little_number}
@@ -10,12 +10,12 @@ use Rattle.leaf_grammar.specs.declared.grammar.Rows.{Rows}
 use Rattle.leaf_grammar.specs.declared.grammar.Leaf.{Leaf}
 use Rattle.leaf_grammar.specs.declared.grammar.Malformed.{Malformed}
 use Rattle.leaf_grammar.specs.Kinds.{parts_of, rows_of}
-use Rattle.leaf_grammar.specs.Leaf.{◌>>=◌, content_end, cursor, has_length, kind_of, leaf, leaf_of, long_rest, parts_end, rows_end, tail_end, wrong_length}
+use Rattle.leaf_grammar.specs.Leaf.{◌>>=◌, content_end, cursor, has_length, kind_of, leaf, leaf_of, long_rest, parts_end, tail_end, wrong_length}
 use Rattle.leaf_grammar.specs.Spelled.{AreRows, IsLeaf, IsRest, SpellsContent, SpellsParts}
-use Rattle.leaf_grammar.proofs.Further.{bind_ok, else_ok, else_is, parts_on}
-use Rattle.leaf_grammar.proofs.Standing.{Stands, Piece, then_case, else_case, stands_take, stands_from, stands_front, stands_back, stands_both, number_there, number_front}
+use Rattle.leaf_grammar.proofs.Further.{bind_ok, else_is}
+use Rattle.leaf_grammar.proofs.Standing.{Piece, then_case, else_case, stands_take, stands_from, number_front}
 use Rattle.leaf_grammar.proofs.Spelling.{parts_piece, rows_list}
-use Rattle.leaf_grammar.proofs.Reading.{then_ok, stands_as, parts_whole, rows_whole}
+use Rattle.leaf_grammar.proofs.Reading.{then_ok, parts_whole, rows_whole}
 
 -- what stands behind length and kind: a content to the place that was told, and a rest
 pub record Read (parts : List Part) (rows : Option Rows) (r : List ℕ) (end : ℕ) : Type 0 where

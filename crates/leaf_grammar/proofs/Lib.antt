@@ -1,9 +1,12 @@
+pub mod Visiting
+pub mod Steps
 pub mod Further
 pub mod Finding
 pub mod Rooms
-pub mod TextLemmas
 pub mod TagLemmas
 pub mod Standing
 pub mod Spelling
 pub mod Reading
 pub mod Leaves
+pub mod Flat
+pub mod TextLemmas

@@ -1,5 +1,5 @@
 -- What is spelled so is read.
-use Rattle.std.proofs.Common.{◌≡◌, ◌≢◌, ◌≤◌, ◌<◌, ◌+◌, ◌-◌, ℕ, zero, suc, Bool, true, false, cond, eqb, ltb, lt-ltb, le-ltb, List, [], ◌∷◌, ◌++◌, length, drop, get_or, Option, Some, None, Result, Ok, Err, refl, ap, sym, subst, ◌∙◌, ◌⊎◌, inl, inr, arith, append_assoc, length-append, length-drop}
+use Rattle.std.proofs.Common.{◌≡◌, ◌≢◌, ◌≤◌, ◌<◌, ◌+◌, ◌-◌, ℕ, zero, suc, Bool, true, false, cond, eqb, ltb, lt-ltb, le-ltb, List, [], ◌∷◌, ◌++◌, length, drop, get_or, Some, None, Result, Ok, Err, refl, ap, sym, subst, ◌∙◌, inl, inr, arith, append_assoc, length-append, length-drop}
 use Rattle.std.specs.Prelude.{MatchBool}
 use Rattle.std.specs.List.{position_or_len}
 use Rattle.std.specs.Option.{option_map}
@@ -17,10 +17,9 @@ use Rattle.leaf_grammar.specs.declared.grammar.Part.{Part}
 use Rattle.leaf_grammar.specs.declared.grammar.Part.TheVariants.{Always, Where, Attributes}
 use Rattle.leaf_grammar.specs.declared.grammar.Rows.{Rows}
 use Rattle.leaf_grammar.specs.declared.grammar.Rows.TheVariants.{Members, Methods}
-use Rattle.leaf_grammar.specs.declared.grammar.Cursor.{Cursor}
 use Rattle.leaf_grammar.specs.declared.grammar.Malformed.{Malformed}
 use Rattle.leaf_grammar.specs.Kinds.{method_parts, parts_of_member}
-use Rattle.leaf_grammar.specs.Leaf.{◌>>=◌, bytes_on, behind_numeric, behind_text, behind_form, form_end, items_size, number_at, size_of, cursor, past, says, parts_end, Row, row, member_row, pad_row, row_at, row_end, rows_end, open_text, wrong_member}
+use Rattle.leaf_grammar.specs.Leaf.{◌>>=◌, bytes_on, behind_numeric, behind_text, behind_form, form_end, items_size, number_at, size_of, cursor, past, says, parts_end, Row, row, member_row, pad_row, row_at, row_end, rows_end, wrong_member}
 use Rattle.leaf_grammar.specs.Spelled.{AreRows, SpellsNumeric, SpellsText, SpellsList, SpellsForm, SpellsPart, SpellsParts, SpellsMember, SpellsPad, SpellsRow, attributes_behind}
 use Rattle.leaf_grammar.proofs.Further.{row_further}
 use Rattle.leaf_grammar.proofs.Standing.{Stands, eqb_apart, else_case, then_case, stands_from, stands_front, stands_back, number_there, byte_there, bytes_whole}

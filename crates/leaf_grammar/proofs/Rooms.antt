@@ -5,13 +5,14 @@ use Rattle.std.proofs.lemmas.Grind.{common_steps}
 use Rattle.leaf_grammar.specs.declared.grammar.Space.{Space}
 use Rattle.leaf_grammar.specs.declared.grammar.Form.{Form}
 use Rattle.leaf_grammar.specs.declared.grammar.Form.TheVariants as form
+use Rattle.leaf_grammar.specs.declared.grammar.Condition.{Condition}
 use Rattle.leaf_grammar.specs.declared.grammar.Part.{Part}
-use Rattle.leaf_grammar.specs.declared.grammar.Part.TheVariants.{Always}
+use Rattle.leaf_grammar.specs.declared.grammar.Part.TheVariants.{Always, Where}
 use Rattle.leaf_grammar.specs.declared.grammar.Cursor.{Cursor}
 use Rattle.leaf_grammar.specs.declared.grammar.Leaf.{Leaf}
 use Rattle.leaf_grammar.specs.declared.grammar.Malformed.{Malformed}
 use Rattle.leaf_grammar.specs.Kinds.{parts_of, rows_of}
-use Rattle.leaf_grammar.specs.Leaf.{◌>>=◌, bytes_on, form_end, cursor, past, parts_end, tail_end, content_end, kind_of, leaf_of, leaf, has_length, too_short, wrong_length}
+use Rattle.leaf_grammar.specs.Leaf.{◌>>=◌, behind_form, bytes_on, form_end, cursor, past, says, parts_end, tail_end, content_end, kind_of, leaf_of, leaf, has_length, too_short, wrong_length}
 
 -- what came first, where what came behind it is Ok
 pub first_ok : {A B : Type 0} (first : Result A Malformed) (f : A → Result B Malformed) → IsOk (first >>= f) → (x : A) × (first ≡ Ok x) × IsOk (f x)
@@ -38,6 +39,12 @@ form_ok f r c h =
     let b = first_ok (form_end f r c.at) (λ at. Ok (cursor at c.attributes)) h in
     ok_is (form_end f r c.at) b.0 b.1
 
+pub where_ok : (condition : Condition) (f : Form) (r : List ℕ) (c : Cursor) → says condition c.attributes ≡ true → IsOk (past (Where condition f) r c) → IsOk (form_end f r c.at)
+unfolding past
+where_ok condition f r c e h =
+    let P : Bool → Type 0 = λ b. IsOk (cond b (behind_form c (form_end f r c.at)) (Ok c)) in
+    form_ok f r c (subst P e h)
+
 -- how long a leaf is
 pub record HasRoom (r : List ℕ) : Type 0 where
   pub shortest : 4 ≤ length r
@@ -47,7 +54,7 @@ pub record HasRoom (r : List ℕ) : Type 0 where
 length_room : (r : List ℕ) → has_length r ≡ true → HasRoom r
 length_room r h = record { shortest = grind (arith, common_steps); longest = grind (arith, common_steps); whole = grind (arith, common_steps) }
 
-content_ok : (space : Space) (r : List ℕ) → IsOk (leaf_of space r) → (has_length r ≡ true) × IsOk (content_end (parts_of space (kind_of r)) (rows_of (kind_of r)) r)
+pub content_ok : (space : Space) (r : List ℕ) → IsOk (leaf_of space r) → (has_length r ≡ true) × IsOk (content_end (parts_of space (kind_of r)) (rows_of (kind_of r)) r)
 unfolding leaf_of
 content_ok space r h =
     let content = content_end (parts_of space (kind_of r)) (rows_of (kind_of r)) r in

@@ -1,5 +1,5 @@
 -- What is read is spelled so.
-use Rattle.std.proofs.Common.{◌≡◌, ◌≢◌, ◌≤◌, ◌<◌, ◌+◌, ◌-◌, ℕ, zero, suc, Bool, true, false, cond, eqb, eqb-true, ltb, List, [], ◌∷◌, ◌++◌, length, drop, take, get_or, Option, Some, None, Result, Ok, Err, refl, ap, sym, subst, ◌∙◌, ◌⊎◌, inl, inr, arith, length-append, length-drop}
+use Rattle.std.proofs.Common.{◌≡◌, ◌≤◌, ◌<◌, ◌+◌, ◌-◌, ℕ, zero, suc, Bool, true, false, cond, eqb, eqb-true, ltb, List, [], ◌∷◌, ◌++◌, length, drop, take, get_or, Option, Some, None, Result, Ok, Err, refl, ap, sym, subst, ◌∙◌, inl, inr, arith, length-append, length-drop}
 use Rattle.std.specs.Prelude.{MatchBool}
 use Rattle.std.specs.Option.{option_map}
 use Rattle.std.proofs.lemmas.Bool.{ltb-true, ltb-false, true≢false}
@@ -7,7 +7,7 @@ use Rattle.std.proofs.lemmas.List.{drop_all, take_more, get_or-take, length-take
 use Rattle.std.proofs.lemmas.List.Quantifiers.{position-Some}
 use Rattle.byteorder.specs.Endian.{little_number}
 use Rattle.leaf_words.specs.declared.NumericFault.{NumericFault}
-use Rattle.leaf_words.specs.declared.NumericFault.TheVariants.{Short, Unknown}
+use Rattle.leaf_words.specs.declared.NumericFault.TheVariants.{Short}
 use Rattle.leaf_words.specs.Words.{numeric_end, tail_end, tail_size, text_size}
 use Rattle.leaf_grammar.specs.declared.grammar.Width.{Width}
 use Rattle.leaf_grammar.specs.declared.grammar.Width.TheVariants.{TwoBytes}
@@ -21,10 +21,10 @@ use Rattle.leaf_grammar.specs.declared.grammar.Rows.TheVariants.{Members, Method
 use Rattle.leaf_grammar.specs.declared.grammar.Cursor.{Cursor}
 use Rattle.leaf_grammar.specs.declared.grammar.Malformed.{Malformed}
 use Rattle.leaf_grammar.specs.Kinds.{method_parts, parts_of_member}
-use Rattle.leaf_grammar.specs.Leaf.{◌>>=◌, bytes_on, behind_numeric, behind_text, behind_form, form_end, items_size, number_at, size_of, cursor, past, says, parts_end, Row, row, member_row, pad_row, row_at, row_end, rows_end, wrong_member}
-use Rattle.leaf_grammar.specs.Spelled.{AreRows, SpellsNumeric, SpellsText, SpellsList, SpellsForm, SpellsPart, SpellsParts, SpellsMember, SpellsPad, SpellsRow, attributes_behind}
-use Rattle.leaf_grammar.proofs.Further.{bind_ok, else_ok, else_is, behind_numeric_on, parts_on, row_further}
-use Rattle.leaf_grammar.proofs.Standing.{Stands, Piece, stands_take, stands_from, joined, number_there, byte_there, bytes_piece}
+use Rattle.leaf_grammar.specs.Leaf.{◌>>=◌, bytes_on, behind_text, behind_form, form_end, items_size, number_at, size_of, cursor, past, says, parts_end, Row, row, member_row, pad_row, row_at, row_end, rows_end, wrong_member}
+use Rattle.leaf_grammar.specs.Spelled.{AreRows, SpellsNumeric, SpellsText, SpellsList, SpellsForm, SpellsPart, SpellsParts, SpellsRow, attributes_behind}
+use Rattle.leaf_grammar.proofs.Further.{bind_ok, else_ok, else_is, behind_numeric_on, row_further}
+use Rattle.leaf_grammar.proofs.Standing.{Piece, stands_take, stands_from, joined, number_there, byte_there, bytes_piece}
 
 numeric_piece : (r : List ℕ) (at end : ℕ) → numeric_end r at ≡ Ok end → Piece r at end SpellsNumeric
 numeric_piece r at end e =

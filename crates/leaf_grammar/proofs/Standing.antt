@@ -1,8 +1,7 @@
 -- Bytes that stand at a place of a record.
-use Rattle.std.proofs.Common.{◌≡◌, ◌≢◌, ◌≤◌, ◌<◌, ◌+◌, ◌-◌, ◌*◌, ℕ, zero, suc, min, Bool, true, false, cond, eqb, eqb-true, ltb, List, [], ◌∷◌, ◌++◌, length, drop, take, get_or, Result, Ok, Err, IsOk, refl, ap, sym, subst, ◌∙◌, append_assoc, arith, length-append, length-drop, le-ltb}
-use Rattle.std.proofs.lemmas.List.{take-append-drop, length-take, length-take-le, drop-drop, drop_at, get_or-drop, get_or_append_left}
+use Rattle.std.proofs.Common.{◌≡◌, ◌≢◌, ◌≤◌, ◌<◌, ◌+◌, ◌-◌, ◌*◌, ℕ, zero, suc, Bool, true, false, cond, eqb, eqb-true, ltb, List, ◌++◌, length, drop, take, get_or, Ok, Err, refl, ap, sym, subst, ◌∙◌, append_assoc, arith, length-append, length-drop, le-ltb}
+use Rattle.std.proofs.lemmas.List.{take-append-drop, length-take-le, drop-drop, drop_at, get_or-drop, get_or_append_left}
 use Rattle.byteorder.specs.Endian.{little_from, little_number}
-use Rattle.leaf_grammar.specs.declared.grammar.Malformed.{Malformed}
 use Rattle.leaf_grammar.specs.Leaf.{bytes_on, too_short}
 use Rattle.leaf_grammar.proofs.Further.{bytes_on-is}
 use Rattle.leaf_grammar.proofs.Rooms.{bytes_room, ok_is}

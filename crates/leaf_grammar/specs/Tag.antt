@@ -6,11 +6,9 @@ use Rattle.leaf_grammar.specs.declared.grammar.Width.TheVariants.{TwoBytes}
 use Rattle.leaf_grammar.specs.declared.grammar.Form.{Form}
 use Rattle.leaf_grammar.specs.declared.grammar.Form.TheVariants as form
 use Rattle.leaf_grammar.specs.declared.grammar.Condition.TheVariants.{UniquelyNamed}
-use Rattle.leaf_grammar.specs.declared.grammar.Part.{Part}
-use Rattle.leaf_grammar.specs.declared.grammar.Part.TheVariants.{Always, Where, Attributes}
-use Rattle.leaf_grammar.specs.Kinds.{parts_of}
-use Rattle.leaf_grammar.specs.Leaf.{cursor, has_bits, kind_of, leaf_of, number_at, says}
-use Rattle.leaf_grammar.specs.Found.{found_in}
+use Rattle.leaf_grammar.specs.Kinds.{parts_of, rows_of}
+use Rattle.leaf_grammar.specs.Leaf.{has_bits, kind_of, leaf_of, number_at, says}
+use Rattle.leaf_grammar.specs.Found.{found_in_content}
 
 -- the text that stands at a place, without its NUL
 abbrev pub text_from : List ℕ → ℕ → List ℕ
@@ -30,19 +28,9 @@ is_text_form (form.Number size) = false
 is_text_form form.Numeric = false
 is_text_form (form.List width items) = false
 
--- whether a part stands behind such attributes and is a text
-abbrev pub shows_text : Part → ℕ → Bool
-shows_text (Always form) attributes = is_text_form form
-shows_text (Where condition form) attributes = says condition attributes && is_text_form form
-shows_text (Attributes width) attributes = false
-
 -- the texts of a type, from left to right
-abbrev pub texts_of_parts : Option (List Part) → List ℕ → List (List ℕ)
-texts_of_parts None r = []
-texts_of_parts (Some parts) r = found_in texts_in parts r (cursor 4 0)
-
 unfoldable pub texts_of : List ℕ → List (List ℕ)
-texts_of r = texts_of_parts (parts_of Types (kind_of r)) r
+texts_of r = found_in_content texts_in (parts_of Types (kind_of r)) (rows_of (kind_of r)) r
 
 -- LF_CLASS, LF_STRUCTURE, LF_UNION, LF_ENUM, LF_INTERFACE
 abbrev pub is_tag : ℕ → Bool

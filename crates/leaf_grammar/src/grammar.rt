@@ -34,7 +34,7 @@ pub enum Form {
     Numeric,
     /// A text with its NUL.
     Text,
-    /// The number of its items, and the items.
+    /// The number of its elements, and the elements.
     List(Width, Item),
 }
 
@@ -107,8 +107,8 @@ impl Malformed {
     pub const LENGTH: u8 = 1;
     /// The space has no such kind.
     pub const KIND: u8 = 2;
-    /// A number, the bytes behind the first two of a numeric leaf, the items of a list, or a pad reach
-    /// past the record's end.
+    /// A number, the bytes behind the first two of a numeric leaf, the elements of a list, or a pad
+    /// reach past the record's end.
     pub const SHORT: u8 = 3;
     /// The first two bytes of a numeric leaf are no value and announce none.
     pub const NUMERIC: u8 = 4;

@@ -97,10 +97,11 @@ const ONEMETHOD: &[Part] = &[FLAGS16, TYPE, VTABLE_OFFSET, TEXT];
 
 const METHOD: &[Part] = &[FLAGS16, N16, TYPE, VTABLE_OFFSET];
 
-/// The parts of a kind's content. None where the space has no such kind.
+// The parts of a kind's content. None where the space has no such kind.
 #[tactic(auto, unfolding(crate::specs::Kinds::parts_of))]
-pub fn parts_of_kind(space: Space, kind: u16) -> Option<&'static [Part]>
-    ensures { MatchOption result (parts_of space kind ≡ None) (λ parts. parts_of space kind ≡ Some parts.now) }
+pub(crate) fn parts_of_kind(space: Space, kind: u16) -> Option<&'static [Part]>
+    ensures { MatchOption result (parts_of space kind ≡ None)
+        (λ parts. parts_of space kind ≡ Some parts.now) }
 {
     match space {
         Space::Types => type_parts(kind),
@@ -109,7 +110,8 @@ pub fn parts_of_kind(space: Space, kind: u16) -> Option<&'static [Part]>
 }
 
 fn type_parts(kind: u16) -> Option<&'static [Part]>
-    ensures { MatchOption result (parts_of_type kind ≡ None) (λ parts. parts_of_type kind ≡ Some parts.now) }
+    ensures { MatchOption result (parts_of_type kind ≡ None)
+        (λ parts. parts_of_type kind ≡ Some parts.now) }
 {
     match kind {
         0x000A => Some(VTSHAPE),
@@ -130,7 +132,8 @@ fn type_parts(kind: u16) -> Option<&'static [Part]>
 }
 
 fn item_parts(kind: u16) -> Option<&'static [Part]>
-    ensures { MatchOption result (parts_of_item kind ≡ None) (λ parts. parts_of_item kind ≡ Some parts.now) }
+    ensures { MatchOption result (parts_of_item kind ≡ None)
+        (λ parts. parts_of_item kind ≡ Some parts.now) }
 {
     match kind {
         0x1601 => Some(FUNC_ID),
@@ -144,9 +147,9 @@ fn item_parts(kind: u16) -> Option<&'static [Part]>
     }
 }
 
-/// What stands behind the parts of a kind, to the end.
+// What stands behind the parts of a kind, to the end.
 #[tactic(auto, unfolding(crate::specs::Kinds::rows_of))]
-pub fn rows_of_kind(kind: u16) -> Option<Rows>
+pub(crate) fn rows_of_kind(kind: u16) -> Option<Rows>
     ensures { result ≡ rows_of kind }
 {
     match kind {
@@ -159,7 +162,8 @@ pub fn rows_of_kind(kind: u16) -> Option<Rows>
 // The parts of a member behind its kind. None where there is no such member.
 #[tactic(auto, unfolding(crate::specs::Kinds::parts_of_member))]
 pub(crate) fn member_parts(kind: u16) -> Option<&'static [Part]>
-    ensures { MatchOption result (parts_of_member kind ≡ None) (λ parts. parts_of_member kind ≡ Some parts.now) }
+    ensures { MatchOption result (parts_of_member kind ≡ None)
+        (λ parts. parts_of_member kind ≡ Some parts.now) }
 {
     match kind {
         0x1400 | 0x151A => Some(BASE),

@@ -1,7 +1,9 @@
-//! Which records are leaves: a walk over the parts of a record's kind, from left to right.
+//! Which records are leaves, and what stands in them: one walk over the parts of a record's kind,
+//! from left to right, with a visitor.
 #![tactic(auto)]
 
 mod grammar;
+mod judge;
 mod kinds;
 mod laws;
 mod parts;
@@ -9,14 +11,13 @@ mod rows;
 mod tag;
 #[cfg(test)]
 mod tests;
+mod visit;
 mod walk;
 
-pub use crate::grammar::{
-    Condition, Cursor, Form, Item, Leaf, Malformed, Part, Row, Rows, Space, Width,
-};
-pub use crate::kinds::{parts_of_kind, rows_of_kind};
+pub use crate::grammar::{Form, Item, Leaf, Malformed, Space, Width};
+pub use crate::judge::check;
 pub use crate::laws::leaves_are_spelled;
-pub use crate::parts::{holds, past, read, width_bytes};
-pub use crate::rows::row_from;
+pub use crate::parts::{read, width_bytes};
 pub use crate::tag::{Tag, tag_of};
-pub use crate::walk::{check, record_kind};
+pub use crate::visit::VisitForms;
+pub use crate::walk::{record_kind, walk_forms};

@@ -6,9 +6,9 @@ use crate::grammar::{Condition, Cursor, Form, Item, Malformed, Part, Width};
 use byteorder::{ByteOrder, LittleEndian};
 use leaf_words::{NumericFault, numeric, text_end};
 
-/// The cursor behind a part, or what is wrong in the part.
+// The cursor behind a part, or what is wrong in the part.
 #[tactic(auto, unfolding(crate::specs::Leaf::past))]
-pub fn past(part: Part, bytes: &[u8], from: Cursor) -> Result<Cursor, Malformed>
+pub(crate) fn past(part: Part, bytes: &[u8], from: Cursor) -> Result<Cursor, Malformed>
     requires within { from.at ≤ length bytes.now }
     requires longest { length bytes.now ≤ 65536 }
     ensures cursor { result ≡ cursor_past part bytes.now from }
@@ -32,8 +32,8 @@ pub fn past(part: Part, bytes: &[u8], from: Cursor) -> Result<Cursor, Malformed>
     }
 }
 
-/// Whether attributes say so.
-pub fn holds(condition: Condition, attributes: u32) -> bool
+// Whether attributes say so.
+pub(crate) fn holds(condition: Condition, attributes: u32) -> bool
     ensures { result ≡ says condition attributes }
 {
     match condition {

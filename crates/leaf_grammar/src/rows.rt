@@ -7,10 +7,10 @@ use crate::kinds::{member_parts, parts_of_method};
 use crate::parts::{skip, wrong};
 use byteorder::{ByteOrder, LittleEndian};
 
-/// What stands at a place among the members or the methods: the parts behind a member's kind, a method,
-/// or no part behind a pad.
+// What stands at a place among the members or the methods: the parts behind a member's kind, a
+// method, or no part behind a pad.
 #[tactic(auto, unfolding(crate::specs::Leaf::row_at))]
-pub fn row_from(rows: Rows, bytes: &[u8], at: usize) -> Result<Row, Malformed>
+pub(crate) fn row_from(rows: Rows, bytes: &[u8], at: usize) -> Result<Row, Malformed>
     requires within { at < length bytes.now }
     requires longest { length bytes.now ≤ 65536 }
     ensures row { GivesRow result (row_at rows bytes.now at) }

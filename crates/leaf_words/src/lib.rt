@@ -47,8 +47,8 @@ fn tail_bytes(value: u16) -> Option<usize>
     }
 }
 
-/// The place behind the text that stands at a place: behind its NUL. None where there is no NUL from
-/// there on.
+/// The place behind the text that stands at a place: behind its NUL. None where there is no NUL
+/// from there on.
 pub fn text_end(bytes: &[u8], at: usize) -> Option<usize>
     ensures value { result ≡ end_of_text bytes.now at }
     ensures further { IfSome result (λ end. at < end) }

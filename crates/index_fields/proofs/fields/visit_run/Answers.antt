@@ -1,8 +1,8 @@
 use Rattle.std.proofs.Common.{◌+◌, ◌-◌, ◌*◌, ℕ, List, subst}
 use Rattle.index_fields.specs.Fields.{Field, field_at, run_from}
 use Rattle.index_fields.proofs.Steps.{run_step}
-use Rattle.index_fields.proofs.Visiting.{Completes, completes_one}
-use Rattle.index_fields.proofs.walk.visit_run.Goals as goal
+use Rattle.leaf_grammar.proofs.Visiting.{Completes, completes_one}
+use Rattle.index_fields.proofs.fields.visit_run.Goals as goal
 
 pub loop-k-preserved : goal.loop-k-preserved
 loop-k-preserved g c =

@@ -1,6 +1,6 @@
 use Rattle.std.proofs.Common.{arith}
 use Rattle.index_fields.proofs.Rooms.{list_room}
-use Rattle.index_fields.proofs.walk.visit_list.Goals as goal
+use Rattle.index_fields.proofs.fields.visit_list.Goals as goal
 
 pub read-count-requires : goal.read-count-requires
 read-count-requires g c =

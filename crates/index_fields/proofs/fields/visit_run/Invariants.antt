@@ -1,7 +1,7 @@
 use Rattle.std.proofs.Common.{◌+◌, ◌*◌, ◌-◌}
 use Rattle.index_fields.specs.Fields.{run_from}
-use Rattle.index_fields.proofs.Visiting.{Completes}
-use Rattle.index_fields.proofs.walk.visit_run.Given as goal
+use Rattle.leaf_grammar.proofs.Visiting.{Completes}
+use Rattle.index_fields.proofs.fields.visit_run.Given as goal
 
 abbrev pub invariant-loop-k : goal.invariant-loop-k
 invariant-loop-k g l =
