@@ -5,7 +5,7 @@ use Rattle.std.proofs.lemmas.Nat.{div-add-mod', div-mul-add, div_below, mod-mul-
 use Rattle.std.proofs.Math.Nat.{lt-div-mul-add, suc-mul}
 use Rattle.msf_blocks.specs.Blocks.{IsBlockSize, IsReserved, is_reserved}
 use Rattle.msf_blocks.proofs.Sizes.{sized}
-use Rattle.msf_image.specs.Packed.{given, given_before}
+use Rattle.msf_image.specs.Packed.{given_block, given_before}
 
 -- where the k-th given block stands
 pub record IsGiven (size k b : ℕ) : Type 0 where
@@ -44,27 +44,27 @@ given_at n k some =
 two_more : (size : ℕ) → IsBlockSize size → size - 2 + 2 ≡ size
 two_more size h = omega (arith, (sized size h).least)
 
-pub given_is : (size k : ℕ) → IsBlockSize size → IsGiven size k (given size k)
-unfolding given
+pub given_is : (size k : ℕ) → IsBlockSize size → IsGiven size k (given_block size k)
+unfolding given_block
 given_is size k h =
     subst (λ n. IsGiven n k (3 + k + 2 * (k / (size - 2)))) (two_more size h) (given_at (size - 2) k (omega (arith, (sized size h).least)))
 
-pub given_before_given : (size k : ℕ) → IsBlockSize size → given_before size (given size k) ≡ k
+pub given_before_given : (size k : ℕ) → IsBlockSize size → given_before size (given_block size k) ≡ k
 unfolding given_before
 given_before_given size k h = (given_is size k h).number
 
 -- none is reserved
-pub given_unreserved : (size k : ℕ) → IsBlockSize size → is_reserved size (given size k) ≡ false
+pub given_unreserved : (size k : ℕ) → IsBlockSize size → is_reserved size (given_block size k) ≡ false
 given_unreserved size k h =
     let is = given_is size k h in
-    let zero_no = ne_eqb (given size k) 0 (λ e. omega (arith, e, is.least)) in
-    let one_no = ne_eqb (given size k % size) 1 is.not_one in
-    let two_no = ne_eqb (given size k % size) 2 is.not_two in
-    ap (λ t. t || eqb (given size k % size) 1 || eqb (given size k % size) 2) zero_no ∙ ap (λ t. false || t || eqb (given size k % size) 2) one_no ∙ ap (λ t. false || false || t) two_no
+    let zero_no = ne_eqb (given_block size k) 0 (λ e. omega (arith, e, is.least)) in
+    let one_no = ne_eqb (given_block size k % size) 1 is.not_one in
+    let two_no = ne_eqb (given_block size k % size) 2 is.not_two in
+    ap (λ t. t || eqb (given_block size k % size) 1 || eqb (given_block size k % size) 2) zero_no ∙ ap (λ t. false || t || eqb (given_block size k % size) 2) one_no ∙ ap (λ t. false || false || t) two_no
 
 -- they rise
-pub no_earlier : (size j k : ℕ) → IsBlockSize size → j ≤ k → given size j ≤ given size k
-unfolding given
+pub no_earlier : (size j k : ℕ) → IsBlockSize size → j ≤ k → given_block size j ≤ given_block size k
+unfolding given_block
 no_earlier size j k h le =
     let some : 0 < size - 2 = omega (arith, (sized size h).least) in
     let next : k < k / (size - 2) * (size - 2) + (size - 2) = lt-div-mul-add some in
@@ -72,13 +72,13 @@ no_earlier size j k h le =
     omega (arith, le, runs)
 
 -- no two of them are one
-pub given_once : (size j k : ℕ) → IsBlockSize size → given size j ≡ given size k → j ≡ k
+pub given_once : (size j k : ℕ) → IsBlockSize size → given_block size j ≡ given_block size k → j ≡ k
 given_once size j k h same = sym (given_before_given size j h) ∙ ap (given_before size) same ∙ given_before_given size k h
 
-pub rises : (size j k : ℕ) → IsBlockSize size → j < k → given size j < given size k
+pub rises : (size j k : ℕ) → IsBlockSize size → j < k → given_block size j < given_block size k
 rises size j k h lt =
-    let le : given size j ≤ given size k = no_earlier size j k h (omega (arith, lt)) in
-    let apart : given size j ≡ given size k → ⊥ = λ e. let same = given_once size j k h e in omega (arith, same, lt) in
+    let le : given_block size j ≤ given_block size k = no_earlier size j k h (omega (arith, lt)) in
+    let apart : given_block size j ≡ given_block size k → ⊥ = λ e. let same = given_once size j k h e in omega (arith, same, lt) in
     omega (arith, le, apart)
 
 -- and none is left out
@@ -108,8 +108,8 @@ found_at n b some least first second =
     let k : b - 3 - 2 * run ≡ run * n + place = omega (arith, split, least, enough) in
     ap (λ j. 3 + j + 2 * (j / n)) k ∙ found_in_run n run place b some (omega (arith, low, enough)) (omega (arith, split, least, enough))
 
-pub none_left : (size b : ℕ) → IsBlockSize size → 3 ≤ b → ¬ IsReserved size b → given size (given_before size b) ≡ b
-unfolding given given_before
+pub none_left : (size b : ℕ) → IsBlockSize size → 3 ≤ b → ¬ IsReserved size b → given_block size (given_before size b) ≡ b
+unfolding given_block given_before
 none_left size b h least unreserved =
     subst (λ m. (b % m ≡ 1 → ⊥) → (b % m ≡ 2 → ⊥) → 3 + (b - 3 - 2 * ((b - 1) / m)) + 2 * ((b - 3 - 2 * ((b - 1) / m)) / (size - 2)) ≡ b) (two_more size h)
     (found_at (size - 2) b (omega (arith, (sized size h).least)) least) (λ e. unreserved (ap (λ t. eqb b 0 || t || eqb (b % size) 2) (eq-eqb (b % size) 1 e) ∙ middle (eqb b 0) (eqb (b % size) 2)))
@@ -123,5 +123,5 @@ none_left size b h least unreserved =
     last true = refl
     last false = refl
 
-pub unreserved_given : (size k : ℕ) → IsBlockSize size → ¬ IsReserved size (given size k)
-unreserved_given size k h reserved = both_ways (is_reserved size (given size k)) (given_unreserved size k h) reserved
+pub unreserved_given : (size k : ℕ) → IsBlockSize size → ¬ IsReserved size (given_block size k)
+unreserved_given size k h reserved = both_ways (is_reserved size (given_block size k)) (given_unreserved size k h) reserved

@@ -9,7 +9,7 @@ use Rattle.std.proofs.Math.Nat.{add-mul, lt-div-mul-add, suc-mul}
 use Rattle.msf_blocks.specs.declared.superblock.Super.{Super}
 use Rattle.msf_blocks.specs.Blocks.{IsBlockSize, blocks_of_size}
 use Rattle.msf_blocks.proofs.Sizes.{sized}
-use Rattle.msf_image.specs.Packed.{block_of, file_block, file_of, filled, given, given_before, stream_blocks, stream_bytes, stream_count, stream_from, streams_from}
+use Rattle.msf_image.specs.Packed.{block_of, file_block, file_of, filled, given_block, given_before, stream_blocks, stream_bytes, stream_count, stream_from, streams_from}
 use Rattle.msf_image.specs.Reads.{block_bytes, bytes_of_blocks}
 use Rattle.msf_image.specs.Relation.{stream_in}
 use Rattle.msf_image.proofs.Giving.{given_before_given, given_is}
@@ -62,10 +62,10 @@ read_laid size head map1 content blocks b lt =
     laid_at size (file_block size head map1 content) (length-file_block size head map1 content) 0 blocks b lt ∙ ap (file_block size head map1 content) same
 
 -- a given block holds its part of the content
-pub read_given : (size : ℕ) (head map1 content : List ℕ) (blocks k : ℕ) → IsBlockSize size → given size k < blocks → block_bytes size (file_of size head map1 content blocks) (given size k) ≡ block_of size content k
+pub read_given : (size : ℕ) (head map1 content : List ℕ) (blocks k : ℕ) → IsBlockSize size → given_block size k < blocks → block_bytes size (file_of size head map1 content blocks) (given_block size k) ≡ block_of size content k
 unfolding file_block
 read_given size head map1 content blocks k h lt =
-    let b = given size k in
+    let b = given_block size k in
     let is = given_is size k h in
     read_laid size head map1 content blocks b lt
     ∙ ap (λ t. cond t (block_of size head 0) (cond (eqb (b % size) 1) (block_of size map1 (b / size)) (cond (eqb (b % size) 2) (block_of size [] 0) (block_of size content (given_before size b))))) (ne_eqb b 0 (λ e. omega (arith, e, is.least)))
@@ -135,18 +135,18 @@ length-filled size bytes h =
 
 -- The blocks from the a-th given one on hold this stream, and it is read.
 content_laid : (s : Super) (file content behind : List ℕ) (x : Option (List ℕ)) (a : ℕ) → IsBlockSize s.block → drop (a * s.block) content ≡ filled s.block (stream_bytes x) ++ behind
-    → ((k : ℕ) → a ≤ k → k < a + stream_count s.block x → block_bytes s.block file (given s.block k) ≡ block_of s.block content k) → stream_in file s (stream_from s.block a x) ≡ x
+    → ((k : ℕ) → a ≤ k → k < a + stream_count s.block x → block_bytes s.block file (given_block s.block k) ≡ block_of s.block content k) → stream_in file s (stream_from s.block a x) ≡ x
 content_laid s file content behind None a h at each = refl
 content_laid s file content behind (Some x) a h at each =
     let count = blocks_of_size s.block (length x) in
     let pad : List ℕ = replicate (count * s.block - length x) 0 in
-    ap (λ bytes. Some (take (length x) bytes)) (run_of s.block file content (given s.block) a count each ∙ run_is s.block content (filled s.block x) behind a count (length-filled s.block x h) at)
+    ap (λ bytes. Some (take (length x) bytes)) (run_of s.block file content (given_block s.block) a count each ∙ run_is s.block content (filled s.block x) behind a count (length-filled s.block x h) at)
     ∙ ap Some (take_at x pad (length x) refl)
 
 -- the same of streams
 pub contents_laid : (s : Super) (file content rest : List ℕ) (streams : List (Option (List ℕ))) (a : ℕ) → IsBlockSize s.block
     → drop (a * s.block) content ≡ flat_map (λ stream. filled s.block (stream_bytes stream)) streams ++ rest
-    → ((k : ℕ) → a ≤ k → k < a + stream_blocks s.block streams → block_bytes s.block file (given s.block k) ≡ block_of s.block content k)
+    → ((k : ℕ) → a ≤ k → k < a + stream_blocks s.block streams → block_bytes s.block file (given_block s.block k) ≡ block_of s.block content k)
     → map (stream_in file s) (streams_from s.block a streams) ≡ streams
 contents_laid s file content rest [] a h at each = refl
 contents_laid s file content rest (x ∷ streams) a h at each =

@@ -18,7 +18,7 @@ use Rattle.free_page_maps.proofs.MapTexts.{length-map_text, map_again}
 use Rattle.stream_directory.specs.Directory.{AreUsable, blocks_in, directory_text, word}
 use Rattle.stream_directory.specs.Reading.{words_in}
 use Rattle.stream_directory.proofs.Streams.{Spells-directory_text}
-use Rattle.msf_image.specs.Packed.{IsPackable, block_of, directory_blocks_of, directory_bytes, filled, given, given_from, none_of, packed, packed_content, packed_directory, packed_image, packed_listed, packed_map_addr, packed_super, stream_blocks, stream_bytes, stream_count}
+use Rattle.msf_image.specs.Packed.{IsPackable, block_of, directory_blocks_of, directory_bytes, filled, given_block, given_from, none_of, packed_file, packed_content, packed_directory, packed_image, packed_listed, packed_map_addr, packed_super, stream_blocks, stream_bytes, stream_count}
 use Rattle.msf_image.specs.Reads.{IsWhole, active_map_blocks, block_bytes, bytes_of_blocks, free_blocks_in, used_blocks}
 use Rattle.msf_image.specs.Relation.{Reads, contents_in, directory_in, stream_in, used_in}
 use Rattle.msf_image.proofs.Directories.{map_inside}
@@ -40,23 +40,23 @@ front_of size text file least len same =
     let short : 56 ≤ size = omega (arith, least) in
     sym (take-take 56 size file short) ∙ ap (take 56) whole ∙ take-take 56 size (text ++ replicate size 0) short ∙ take_at text (replicate size 0) 56 len
 
-pub packed_front : (size unknown : ℕ) (streams : List (Option (List ℕ))) → IsPackable size streams → take 56 (packed size unknown streams) ≡ superblock_text (packed_super size unknown streams)
-unfolding packed
+pub packed_front : (size unknown : ℕ) (streams : List (Option (List ℕ))) → IsPackable size streams → take 56 (packed_file size unknown streams) ≡ superblock_text (packed_super size unknown streams)
+unfolding packed_file
 packed_front size unknown streams p =
     let s = packed_super size unknown streams in
-    front_of size (superblock_text s) (packed size unknown streams) (sized size p.block).least (length-superblock_text s) (read_front size (superblock_text s) (map_text size (none_of s.blocks)) (packed_content size streams) s.blocks (omega arith))
+    front_of size (superblock_text s) (packed_file size unknown streams) (sized size p.block).least (length-superblock_text s) (read_front size (superblock_text s) (map_text size (none_of s.blocks)) (packed_content size streams) s.blocks (omega arith))
 
-pub length-packed : (size unknown : ℕ) (streams : List (Option (List ℕ))) → length (packed size unknown streams) ≡ (packed_map_addr size streams + 1) * size
-unfolding packed
-length-packed size unknown streams =
+pub length-packed_file : (size unknown : ℕ) (streams : List (Option (List ℕ))) → length (packed_file size unknown streams) ≡ (packed_map_addr size streams + 1) * size
+unfolding packed_file
+length-packed_file size unknown streams =
     let s = packed_super size unknown streams in length-file_of size (superblock_text s) (map_text size (none_of s.blocks)) (packed_content size streams) s.blocks
 
 -- ---- what the given blocks hold
 
 -- each given block up to the block map
 each_given : (size unknown : ℕ) (streams : List (Option (List ℕ))) → IsPackable size streams → (k : ℕ) → k ≤ stream_blocks size streams + directory_blocks_of size streams
-    → block_bytes size (packed size unknown streams) (given size k) ≡ block_of size (packed_content size streams) k
-unfolding packed
+    → block_bytes size (packed_file size unknown streams) (given_block size k) ≡ block_of size (packed_content size streams) k
+unfolding packed_file
 each_given size unknown streams p k le =
     let s = packed_super size unknown streams in
     read_given size (superblock_text s) (map_text size (none_of s.blocks)) (packed_content size streams) s.blocks k p.block (inside_packed size unknown streams p.block k le)
@@ -93,7 +93,7 @@ behind_text size streams p =
 
 -- ---- the block map and the directory
 
-given_words : (size a n most : ℕ) → most ≤ 2 ^ 32 → ((k : ℕ) → a ≤ k → k < a + n → given size k < most) → AllByRecursion (λ b. b < 2 ^ 32) (given_from size a n)
+given_words : (size a n most : ℕ) → most ≤ 2 ^ 32 → ((k : ℕ) → a ≤ k → k < a + n → given_block size k < most) → AllByRecursion (λ b. b < 2 ^ 32) (given_from size a n)
 given_words size a zero most few below = tt
 given_words size a (suc n) most few below =
     (omega (arith, few, below a (omega arith) (omega arith)), given_words size (a + 1) n most few (λ k from to. below k (omega (arith, from)) (omega (arith, to))))
@@ -117,7 +117,7 @@ listed_short size bytes h le =
 
 length-packed_listed : (size : ℕ) (streams : List (Option (List ℕ))) → length (packed_listed size streams) ≡ directory_blocks_of size streams
 unfolding packed_listed
-length-packed_listed size streams = length-map-range_with_len (given size) (stream_blocks size streams) (directory_blocks_of size streams)
+length-packed_listed size streams = length-map-range_with_len (given_block size) (stream_blocks size streams) (directory_blocks_of size streams)
 
 listed_words : (size unknown : ℕ) (streams : List (Option (List ℕ))) → IsPackable size streams → AllByRecursion (λ b. b < 2 ^ 32) (packed_listed size streams)
 unfolding packed_listed
@@ -140,12 +140,12 @@ map_words size bytes words k short fits at =
     ap (λ ys. take (length words) (words_in ys)) front.1 ∙ words_back words front.0 fits
 
 map_addr_read : (size unknown : ℕ) (streams : List (Option (List ℕ))) → IsPackable size streams
-    → block_bytes size (packed size unknown streams) (packed_map_addr size streams) ≡ block_of size (packed_content size streams) (stream_blocks size streams + directory_blocks_of size streams)
+    → block_bytes size (packed_file size unknown streams) (packed_map_addr size streams) ≡ block_of size (packed_content size streams) (stream_blocks size streams + directory_blocks_of size streams)
 unfolding packed_map_addr
 map_addr_read size unknown streams p = each_given size unknown streams p (stream_blocks size streams + directory_blocks_of size streams) (omega arith)
 
 pub packed_blocks_listed : (size unknown : ℕ) (streams : List (Option (List ℕ))) → IsPackable size streams
-    → take (directory_blocks_of size streams) (words_in (block_bytes size (packed size unknown streams) (packed_map_addr size streams))) ≡ packed_listed size streams
+    → take (directory_blocks_of size streams) (words_in (block_bytes size (packed_file size unknown streams) (packed_map_addr size streams))) ≡ packed_listed size streams
 packed_blocks_listed size unknown streams p =
     let len = length-packed_listed size streams in
     let short : 4 * length (packed_listed size streams) ≤ size = omega (arith, len, listed_short size (directory_bytes size streams) p.block p.directory) in
@@ -154,14 +154,14 @@ packed_blocks_listed size unknown streams p =
     ∙ map_words size (packed_content size streams) (packed_listed size streams) (stream_blocks size streams + directory_blocks_of size streams) short (listed_words size unknown streams p) (behind_text size streams p)
 
 -- the directory's text is read
-pub text_read : (size unknown : ℕ) (streams : List (Option (List ℕ))) → IsPackable size streams → bytes_of_blocks size (packed size unknown streams) (packed_listed size streams) ≡ filled size (directory_text (packed_directory size streams))
+pub text_read : (size unknown : ℕ) (streams : List (Option (List ℕ))) → IsPackable size streams → bytes_of_blocks size (packed_file size unknown streams) (packed_listed size streams) ≡ filled size (directory_text (packed_directory size streams))
 unfolding packed_listed
 text_read size unknown streams p =
     let n = stream_blocks size streams in
     let d = directory_blocks_of size streams in
     let content = packed_content size streams in
     let text = filled size (directory_text (packed_directory size streams)) in
-    run_of size (packed size unknown streams) content (given size) n d (λ k from to. each_given size unknown streams p k (omega (arith, to)))
+    run_of size (packed_file size unknown streams) content (given_block size) n d (λ k from to. each_given size unknown streams p k (omega (arith, to)))
     ∙ run_is size content text (flat_map word (given_from size n d)) n d (length-text_filled size streams p) (behind_streams size streams p)
 
 -- ---- the map
@@ -185,8 +185,8 @@ none_again size blocks some =
     and_false false = refl
 
 map_read : (size unknown : ℕ) (streams : List (Option (List ℕ))) → unknown < 2 ^ 32 → IsPackable size streams
-    → bytes_of_blocks size (packed size unknown streams) (active_map_blocks (packed_super size unknown streams)) ≡ map_text size (none_of (packed_map_addr size streams + 1))
-unfolding packed
+    → bytes_of_blocks size (packed_file size unknown streams) (active_map_blocks (packed_super size unknown streams)) ≡ map_text size (none_of (packed_map_addr size streams + 1))
+unfolding packed_file
 map_read size unknown streams fits p =
     let s = packed_super size unknown streams in
     let text = map_text size (none_of s.blocks) in
@@ -194,7 +194,7 @@ map_read size unknown streams fits p =
     let inside = map_inside s n (active_map_blocks s) (is_super size unknown streams fits p) refl refl in
     let none : 0 * size ≡ 0 = omega arith in
     let at : drop (0 * size) text ≡ text ++ [] = ap (λ m. drop m text) none ∙ sym (append-nil text) in
-    run_of size (packed size unknown streams) text (map_block size 1) 0 n
+    run_of size (packed_file size unknown streams) text (map_block size 1) 0 n
     (λ k from to.
     let lt : k < n = omega (arith, to) in
     let there : k < length (active_map_blocks s) = omega (arith, lt, length-map-range_with_len (map_block size 1) 0 n) in
@@ -203,7 +203,7 @@ map_read size unknown streams fits p =
     ∙ run_is size text text [] 0 n (length-map_text size (none_of s.blocks)) at
 
 packed_free : (size unknown : ℕ) (streams : List (Option (List ℕ))) → unknown < 2 ^ 32 → IsPackable size streams
-    → free_blocks_in (packed size unknown streams) (packed_super size unknown streams) ≡ none_of (packed_map_addr size streams + 1)
+    → free_blocks_in (packed_file size unknown streams) (packed_super size unknown streams) ≡ none_of (packed_map_addr size streams + 1)
 unfolding free_blocks_in
 packed_free size unknown streams fits p =
     let blocks = packed_map_addr size streams + 1 in
@@ -212,21 +212,21 @@ packed_free size unknown streams fits p =
 -- ---- the law
 
 -- the directory's text
-packed_text : (size unknown : ℕ) (streams : List (Option (List ℕ))) → IsPackable size streams → directory_in (packed size unknown streams) (packed_super size unknown streams) ≡ directory_text (packed_directory size streams)
+packed_text : (size unknown : ℕ) (streams : List (Option (List ℕ))) → IsPackable size streams → directory_in (packed_file size unknown streams) (packed_super size unknown streams) ≡ directory_text (packed_directory size streams)
 packed_text size unknown streams p =
     let text = directory_text (packed_directory size streams) in
     let pad : List ℕ = replicate (blocks_of_size size (length text) * size - length text) 0 in
-    ap (λ listed. take (directory_bytes size streams) (bytes_of_blocks size (packed size unknown streams) listed)) (packed_blocks_listed size unknown streams p)
+    ap (λ listed. take (directory_bytes size streams) (bytes_of_blocks size (packed_file size unknown streams) listed)) (packed_blocks_listed size unknown streams p)
     ∙ ap (take (directory_bytes size streams)) (text_read size unknown streams p) ∙ take_at text pad (directory_bytes size streams) (length-packed_text size streams p.block)
 
 others-map : {A B : Type 0} (f : A → B) (xs : List A) → map f (drop 1 xs) ≡ drop 1 (map f xs)
 others-map f [] = refl
 others-map f (x ∷ xs) = refl
 
-packed_contents : (size unknown : ℕ) (streams : List (Option (List ℕ))) → IsPackable size streams → drop 1 streams ≡ contents_in (packed size unknown streams) (packed_image size unknown streams)
+packed_contents : (size unknown : ℕ) (streams : List (Option (List ℕ))) → IsPackable size streams → drop 1 streams ≡ contents_in (packed_file size unknown streams) (packed_image size unknown streams)
 unfolding packed_directory packed_content
 packed_contents size unknown streams p =
-    let file = packed size unknown streams in
+    let file = packed_file size unknown streams in
     let s = packed_super size unknown streams in
     let rest = filled size (directory_text (packed_directory size streams)) ++ flat_map word (packed_listed size streams) in
     let none : 0 * size ≡ 0 = omega arith in
@@ -265,7 +265,7 @@ packed_whole size unknown streams fits p =
     }
 
 pub packed_reads : (size unknown limit : ℕ) (streams : List (Option (List ℕ))) → unknown < 2 ^ 32 → IsPackable size streams → packed_map_addr size streams + 1 ≤ limit
-    → Reads (packed size unknown streams) limit (packed_image size unknown streams) (drop 1 streams)
+    → Reads (packed_file size unknown streams) limit (packed_image size unknown streams) (drop 1 streams)
 packed_reads size unknown limit streams fits p few =
     let s = packed_super size unknown streams in
     let directory = packed_directory size streams in
@@ -274,11 +274,11 @@ packed_reads size unknown limit streams fits p few =
       head = whole.head;
       text = packed_front size unknown streams p;
       limited = few;
-      inside = omega (arith, length-packed size unknown streams);
-      spelled = Spells-directory_text size directory (directory_in (packed size unknown streams) s) (none_skipped size streams p) (packed_text size unknown streams p);
+      inside = omega (arith, length-packed_file size unknown streams);
+      spelled = Spells-directory_text size directory (directory_in (packed_file size unknown streams) s) (none_skipped size streams p) (packed_text size unknown streams p);
       sized = whole.directory.sized;
       usable = subst (λ listed. AreUsable s [] (used_blocks (s.map_addr ∷ listed) directory)) (sym (packed_blocks_listed size unknown streams p)) (packed_usable size unknown streams p);
       free = sym (packed_free size unknown streams fits p);
-      none_free = all_used s.blocks (used_in (packed size unknown streams) (packed_image size unknown streams));
+      none_free = all_used s.blocks (used_in (packed_file size unknown streams) (packed_image size unknown streams));
       contents = packed_contents size unknown streams p;
     }

@@ -20,7 +20,7 @@ use Rattle.free_page_maps.specs.FreeBlocks.{FreeBlocks, free_in}
 use Rattle.free_page_maps.specs.MapText.{map_text}
 use Rattle.stream_directory.specs.Directory.{StreamBlocks, absent_size, directory_text, word}
 use Rattle.msf_image.specs.declared.image.Image.{Image}
-use Rattle.msf_image.specs.Packed.{IsPackable, IsSmall, directory_blocks_of, directory_bytes, directory_len, file_block, file_of, filled, given, given_from, none_of, packed, packed_content, packed_directory, packed_image, packed_listed, packed_map_addr, packed_super, present, stream_blocks, stream_bytes, stream_count, stream_from, streams_from}
+use Rattle.msf_image.specs.Packed.{IsPackable, IsSmall, directory_blocks_of, directory_bytes, directory_len, file_block, file_of, filled, given_block, given_from, none_of, packed_file, packed_content, packed_directory, packed_image, packed_listed, packed_map_addr, packed_super, present, stream_blocks, stream_bytes, stream_count, stream_from, streams_from}
 use Rattle.msf_image.proofs.PackedStreams.{length-packed_text, length-streams_from}
 use Rattle.msf_image.proofs.PackedFile.{front_and_more, none_below}
 
@@ -153,8 +153,8 @@ pub record HasRoom (size : ℕ) (streams : List (Option (List ℕ))) : Type 0 wh
   pub text : directory_bytes size streams < 2 ^ 29
   pub map_addr : packed_map_addr size streams < 2 ^ 20
 
-given_no_less : (size k : ℕ) → k ≤ given size k
-unfolding given
+given_no_less : (size k : ℕ) → k ≤ given_block size k
+unfolding given_block
 given_no_less size k = omega arith
 
 pub has_room : (size : ℕ) (streams : List (Option (List ℕ))) → IsPackable size streams → HasRoom size streams
@@ -190,8 +190,8 @@ of_made file (Ok v) P is p = subst P (sym is) p
 of_made file (Err e) P is p = tt
 
 made_as : (size : ℕ) (streams : List (Option (List ℕ))) (s : Super) (map1 content : List ℕ) → s ≡ packed_super size 0 streams → map1 ≡ map_text size (none_of s.blocks) → content ≡ packed_content size streams
-    → file_of s.block (superblock_text s) map1 content s.blocks ≡ packed size 0 streams
-unfolding packed
+    → file_of s.block (superblock_text s) map1 content s.blocks ≡ packed_file size 0 streams
+unfolding packed_file
 made_as size streams s map1 content head is holds =
     ap (λ m. file_of s.block (superblock_text s) m content s.blocks) is ∙ ap (λ c. file_of s.block (superblock_text s) (map_text size (none_of s.blocks)) c s.blocks) holds
     ∙ ap (λ (t : Super). file_of t.block (superblock_text t) (map_text size (none_of t.blocks)) (packed_content size streams) t.blocks) head
@@ -211,7 +211,7 @@ image_as size dir_bytes map_addr streams directory free bytes addr spelled none 
 -- the file of its parts
 pub packed_of : (size : ℕ) (xs : List (List ℕ)) (image : Image) (text listed map1 content : List ℕ) → image ≡ packed_image size 0 (present xs) → text ≡ directory_text image.directory → listed ≡ packed_listed size (present xs)
     → map1 ≡ map_text size image.free → content ≡ flat_map (filled size) xs ++ (filled size text ++ flat_map word listed)
-    → file_of image.head.block (superblock_text image.head) map1 content image.head.blocks ≡ packed size 0 (present xs)
+    → file_of image.head.block (superblock_text image.head) map1 content image.head.blocks ≡ packed_file size 0 (present xs)
 unfolding packed_content
 packed_of size xs image text listed map1 content same is all holds has =
     let spelled : text ≡ directory_text (packed_directory size (present xs)) = is ∙ ap (λ (i : Image). directory_text i.directory) same in
@@ -246,6 +246,6 @@ pub listed_as : (size kept count : ℕ) (streams : List (Option (List ℕ))) →
 unfolding packed_listed
 listed_as size kept count streams a b = ap (λ k. given_from size k count) a ∙ ap (given_from size (stream_blocks size streams)) b
 
-pub addr_as : (size kept count : ℕ) (streams : List (Option (List ℕ))) → kept ≡ stream_blocks size streams → count ≡ directory_blocks_of size streams → given size (kept + count) ≡ packed_map_addr size streams
+pub addr_as : (size kept count : ℕ) (streams : List (Option (List ℕ))) → kept ≡ stream_blocks size streams → count ≡ directory_blocks_of size streams → given_block size (kept + count) ≡ packed_map_addr size streams
 unfolding packed_map_addr
-addr_as size kept count streams a b = ap (λ k. given size (k + count)) a ∙ ap (λ k. given size (stream_blocks size streams + k)) b
+addr_as size kept count streams a b = ap (λ k. given_block size (k + count)) a ∙ ap (λ k. given_block size (stream_blocks size streams + k)) b

@@ -12,7 +12,7 @@ use Rattle.msf_blocks.specs.Superblock.{IsSuper}
 use Rattle.msf_blocks.proofs.Sizes.{sized}
 use Rattle.stream_directory.specs.Directory.{AreSized, AreUsable, IsDirectory, IsFirst, IsSized, absent_size, blocks_in, directory_text, size_field, skipped_count}
 use Rattle.stream_directory.proofs.Streams.{length-directory_text}
-use Rattle.msf_image.specs.Packed.{IsPackable, directory_blocks_of, directory_bytes, given, given_from, packed_directory, packed_listed, packed_map_addr, packed_super, stream_blocks, stream_bytes, stream_count, stream_from, streams_from}
+use Rattle.msf_image.specs.Packed.{IsPackable, directory_blocks_of, directory_bytes, given_block, given_from, packed_directory, packed_listed, packed_map_addr, packed_super, stream_blocks, stream_bytes, stream_count, stream_from, streams_from}
 use Rattle.msf_image.proofs.Giving.{given_is, given_once, given_unreserved, no_earlier}
 
 -- no bytes take no block
@@ -29,7 +29,7 @@ given_from-more size k zero m =
 given_from-more size k (suc n) m =
     let here : k + suc n ≡ k + 1 + n = omega arith in
     let all : suc (n + m) ≡ suc n + m = omega arith in
-    ap (λ j. given size k ∷ (given_from size (k + 1) n ++ given_from size j m)) here ∙ ap (λ xs. given size k ∷ xs) (given_from-more size (k + 1) n m) ∙ ap (given_from size k) all
+    ap (λ j. given_block size k ∷ (given_from size (k + 1) n ++ given_from size j m)) here ∙ ap (λ xs. given_block size k ∷ xs) (given_from-more size (k + 1) n m) ∙ ap (given_from size k) all
 
 pub length-streams_from : (size k : ℕ) (streams : List (Option (List ℕ))) → length (streams_from size k streams) ≡ length streams
 length-streams_from size k [] = refl
@@ -49,7 +49,7 @@ blocks_from size k (x ∷ streams) h =
 
 sized_one : (size k : ℕ) (x : Option (List ℕ)) → length (stream_bytes x) < absent_size → IsSized size (stream_from size k x)
 sized_one size k None few = tt
-sized_one size k (Some bytes) few = (few, length-map-range_with_len (given size) k (blocks_of_size size (length bytes)))
+sized_one size k (Some bytes) few = (few, length-map-range_with_len (given_block size) k (blocks_of_size size (length bytes)))
 
 sized_from : (size k : ℕ) (streams : List (Option (List ℕ))) → All (λ stream. length (stream_bytes stream) < absent_size) streams → AllByRecursion (IsSized size) (streams_from size k streams)
 sized_from size k [] few = tt
@@ -92,7 +92,7 @@ length-packed_directory size streams = length-streams_from size 0 streams
 pub length-packed_text : (size : ℕ) (streams : List (Option (List ℕ))) → IsBlockSize size → length (directory_text (packed_directory size streams)) ≡ directory_bytes size streams
 unfolding directory_bytes
 length-packed_text size streams h =
-    omega (arith, length-directory_text (packed_directory size streams), length-packed_directory size streams, ap length (kept_blocks size streams h), length-map-range_with_len (given size) 0 (stream_blocks size streams))
+    omega (arith, length-directory_text (packed_directory size streams), length-packed_directory size streams, ap length (kept_blocks size streams h), length-map-range_with_len (given_block size) 0 (stream_blocks size streams))
 
 -- ---- the superblock
 
@@ -115,10 +115,10 @@ is_super size unknown streams fits p =
 
 -- ---- the blocks that are used
 
-none_among : (size k a n : ℕ) → IsBlockSize size → ((j : ℕ) → a ≤ j → j < a + n → j ≡ k → ⊥) → list_any (λ x. eqb x (given size k)) (given_from size a n) ≡ false
+none_among : (size k a n : ℕ) → IsBlockSize size → ((j : ℕ) → a ≤ j → j < a + n → j ≡ k → ⊥) → list_any (λ x. eqb x (given_block size k)) (given_from size a n) ≡ false
 none_among size k a zero h apart = refl
 none_among size k a (suc n) h apart =
-    ap (λ t. t || list_any (λ x. eqb x (given size k)) (given_from size (a + 1) n)) (ne_eqb (given size a) (given size k) (λ e. apart a (omega arith) (omega arith) (given_once size a k h e)))
+    ap (λ t. t || list_any (λ x. eqb x (given_block size k)) (given_from size (a + 1) n)) (ne_eqb (given_block size a) (given_block size k) (λ e. apart a (omega arith) (omega arith) (given_once size a k h e)))
     ∙ none_among size k (a + 1) n h (λ j from to e. apart j (omega (arith, from)) (omega (arith, to)) e)
 
 any-append : (p : ℕ → Bool) (xs ys : List ℕ) → list_any p xs ≡ false → list_any p ys ≡ false → list_any p (xs ++ ys) ≡ false
@@ -129,20 +129,20 @@ any-append p (x ∷ xs) ys none other = step (p x) none (λ e. any-append p xs y
     step true e more = absurd cc
     step false e more = more e
 
-usable_from : (s : Super) (earlier : List ℕ) (a n : ℕ) → IsBlockSize s.block → ((k : ℕ) → a ≤ k → k < a + n → given s.block k < s.blocks)
-    → ((k : ℕ) → a ≤ k → k < a + n → list_any (λ x. eqb x (given s.block k)) earlier ≡ false) → AreUsable s earlier (given_from s.block a n)
+usable_from : (s : Super) (earlier : List ℕ) (a n : ℕ) → IsBlockSize s.block → ((k : ℕ) → a ≤ k → k < a + n → given_block s.block k < s.blocks)
+    → ((k : ℕ) → a ≤ k → k < a + n → list_any (λ x. eqb x (given_block s.block k)) earlier ≡ false) → AreUsable s earlier (given_from s.block a n)
 usable_from s earlier a zero h inside apart = tt
 usable_from s earlier a (suc n) h inside apart = (
   λ reserved. both_ways _ (given_unreserved s.block a h) reserved,
   inside a (omega arith) (omega arith),
   apart a (omega arith) (omega arith),
-  usable_from s (earlier ++ given s.block a ∷ []) (a + 1) n h (λ k from to. inside k (omega (arith, from)) (omega (arith, to)))
-      (λ k from to. any-append (λ x. eqb x (given s.block k)) earlier (given s.block a ∷ []) (apart k (omega (arith, from)) (omega (arith, to)))
-      (ap (λ t. t || false) (ne_eqb (given s.block a) (given s.block k) (λ e. let same = given_once s.block a k h e in omega (arith, same, from))))),
+  usable_from s (earlier ++ given_block s.block a ∷ []) (a + 1) n h (λ k from to. inside k (omega (arith, from)) (omega (arith, to)))
+      (λ k from to. any-append (λ x. eqb x (given_block s.block k)) earlier (given_block s.block a ∷ []) (apart k (omega (arith, from)) (omega (arith, to)))
+      (ap (λ t. t || false) (ne_eqb (given_block s.block a) (given_block s.block k) (λ e. let same = given_once s.block a k h e in omega (arith, same, from))))),
 )
 
 -- a given block up to the block map is one of the file
-pub inside_packed : (size unknown : ℕ) (streams : List (Option (List ℕ))) → IsBlockSize size → (k : ℕ) → k ≤ stream_blocks size streams + directory_blocks_of size streams → given size k < (packed_super size unknown streams).blocks
+pub inside_packed : (size unknown : ℕ) (streams : List (Option (List ℕ))) → IsBlockSize size → (k : ℕ) → k ≤ stream_blocks size streams + directory_blocks_of size streams → given_block size k < (packed_super size unknown streams).blocks
 unfolding packed_map_addr
 inside_packed size unknown streams h k le = omega (arith, no_earlier size k (stream_blocks size streams + directory_blocks_of size streams) h le)
 
@@ -156,8 +156,8 @@ listed_usable size unknown streams p =
       λ reserved. both_ways _ (given_unreserved size (n + d) h) reserved,
       inside_packed size unknown streams h (n + d) (omega arith),
       refl,
-      usable_from s (given size (n + d) ∷ []) n d h (λ k from to. inside_packed size unknown streams h k (omega (arith, to)))
-          (λ k from to. ap (λ t. t || false) (ne_eqb (given size (n + d)) (given size k) (λ e. let same = given_once size (n + d) k h e in omega (arith, same, to)))),
+      usable_from s (given_block size (n + d) ∷ []) n d h (λ k from to. inside_packed size unknown streams h k (omega (arith, to)))
+          (λ k from to. ap (λ t. t || false) (ne_eqb (given_block size (n + d)) (given_block size k) (λ e. let same = given_once size (n + d) k h e in omega (arith, same, to)))),
     )
 
 pub kept_usable : (size unknown : ℕ) (streams : List (Option (List ℕ))) → IsPackable size streams
@@ -168,8 +168,8 @@ kept_usable size unknown streams p =
     let n = stream_blocks size streams in
     let d = directory_blocks_of size streams in
     let h = p.block in
-    usable_from s (given size (n + d) ∷ given_from size n d) 0 n h (λ k from to. inside_packed size unknown streams h k (omega (arith, to)))
-    (λ k from to. ap (λ t. t || list_any (λ x. eqb x (given size k)) (given_from size n d)) (ne_eqb (given size (n + d)) (given size k) (λ e. let same = given_once size (n + d) k h e in omega (arith, same, to)))
+    usable_from s (given_block size (n + d) ∷ given_from size n d) 0 n h (λ k from to. inside_packed size unknown streams h k (omega (arith, to)))
+    (λ k from to. ap (λ t. t || list_any (λ x. eqb x (given_block size k)) (given_from size n d)) (ne_eqb (given_block size (n + d)) (given_block size k) (λ e. let same = given_once size (n + d) k h e in omega (arith, same, to)))
     ∙ none_among size k n d h (λ j low high e. omega (arith, low, e, to)))
 
 sized_packed : (size : ℕ) (streams : List (Option (List ℕ))) → IsPackable size streams → AreSized size (packed_directory size streams)

@@ -7,8 +7,8 @@ use Rattle.std.proofs.lemmas.List.Elements.{All-append, All-head, All-tail}
 use Rattle.std.proofs.lemmas.List.FromFn.{get_or-map-range_with_len, length-map-range_with_len}
 use Rattle.std.proofs.lemmas.Nat.{mod-mul-add, mul-le}
 use Rattle.std.proofs.Math.Nat.{suc-mul}
-use Rattle.srv_edge.specs.Disk.{Torn, headed}
-use Rattle.srv_edge.proofs.Ranges.{headed_holds, headed_keeps, length-headed, torn_keeps}
+use Rattle.srv_edge.specs.Disk.{Torn, with_head}
+use Rattle.srv_edge.proofs.Ranges.{headed_holds, headed_keeps, length-with_head, torn_keeps}
 use Rattle.msf_blocks.specs.declared.superblock.Super.{Super}
 use Rattle.msf_blocks.specs.Bits.{has_bit}
 use Rattle.msf_blocks.specs.Blocks.{IsBlockSize, IsMap, IsReserved, block_offset, blocks_of_size, map_block, map_blocks}
@@ -156,7 +156,7 @@ source_behind file limit image streams r =
     (map_each (λ b. 1 ≤ b) s (λ j. omega (arith, (map_number s.map r.head.map).0)))
 
 -- the superblock written again
-pub headed_reads : (file : List ℕ) (limit : ℕ) (image : Image) (streams : List (Option (List ℕ))) → Reads file limit image streams → Reads (headed file (superblock_text image.head)) limit image streams
+pub headed_reads : (file : List ℕ) (limit : ℕ) (image : Image) (streams : List (Option (List ℕ))) → Reads file limit image streams → Reads (with_head file (superblock_text image.head)) limit image streams
 unfolding superblock_text
 headed_reads file limit image streams r =
     let s = image.head in
@@ -164,13 +164,13 @@ headed_reads file limit image streams r =
     let len : length text ≡ 56 = refl in
     let least = (sized s.block r.head.block).least in
     let behind = source_behind file limit image streams r in
-    same_reads file (headed file text) limit image streams r (record {
+    same_reads file (with_head file text) limit image streams r (record {
       head = headed_holds text file ∙ sym r.text;
       blocks = λ k d lt.
           let b = get_or (source_blocks file image) k d in
           let far = mul-le 1 512 b s.block (behind k d lt) least in
           ap (take s.block) (headed_keeps text file (block_offset s.block b) (omega (arith, far)));
-      long = omega (arith, r.inside, length-headed text file);
+      long = omega (arith, r.inside, length-with_head text file);
     })
 
 -- ---- spare blocks

@@ -18,8 +18,8 @@ abbrev pub filled : ℕ → List ℕ → List ℕ
 filled size bytes = bytes ++ replicate (blocks_of_size size (length bytes) * size - length bytes) 0
 
 -- The k-th block of those from 3 on that are not reserved, counted from 0: after each size - 2 of them stand two for the maps.
-unfoldable pub given : ℕ → ℕ → ℕ
-given size k = 3 + k + 2 * (k / (size - 2))
+unfoldable pub given_block : ℕ → ℕ → ℕ
+given_block size k = 3 + k + 2 * (k / (size - 2))
 
 -- how many of them stand before a block
 unfoldable pub given_before : ℕ → ℕ → ℕ
@@ -27,7 +27,7 @@ given_before size b = b - 3 - 2 * ((b - 1) / size)
 
 -- so many of them, from the k-th on
 abbrev pub given_from : ℕ → ℕ → ℕ → List ℕ
-given_from size k count = map (given size) (range_with_len k count)
+given_from size k count = map (given_block size) (range_with_len k count)
 
 -- A stream is its bytes, or absent. An absent one has none.
 abbrev pub stream_bytes : Option (List ℕ) → List ℕ
@@ -74,7 +74,7 @@ packed_listed size streams = given_from size (stream_blocks size streams) (direc
 
 -- the block map, which comes last
 unfoldable pub packed_map_addr : ℕ → List (Option (List ℕ)) → ℕ
-packed_map_addr size streams = given size (stream_blocks size streams + directory_blocks_of size streams)
+packed_map_addr size streams = given_block size (stream_blocks size streams + directory_blocks_of size streams)
 
 abbrev pub packed_super : ℕ → ℕ → List (Option (List ℕ)) → Super
 packed_super size unknown streams = record {
@@ -116,8 +116,8 @@ unfoldable pub file_of : ℕ → List ℕ → List ℕ → List ℕ → ℕ → 
 file_of size head map1 content blocks = flat_map (file_block size head map1 content) (range_with_len 0 blocks)
 
 -- the packed file of these streams
-unfoldable pub packed : ℕ → ℕ → List (Option (List ℕ)) → List ℕ
-packed size unknown streams =
+unfoldable pub packed_file : ℕ → ℕ → List (Option (List ℕ)) → List ℕ
+packed_file size unknown streams =
     let s = packed_super size unknown streams in
     file_of size (superblock_text s) (map_text size (none_of s.blocks)) (packed_content size streams) s.blocks
 
@@ -133,4 +133,4 @@ pub record IsPackable (size : ℕ) (streams : List (Option (List ℕ))) : Type 0
 -- its last two tests, by the number of the streams and of their blocks
 pub record IsSmall (size streams kept : ℕ) : Type 0 where
   pub directory : directory_len streams kept ≤ size * size / 4
-  pub blocks : given size (kept + blocks_of_size size (directory_len streams kept)) + 1 ≤ 2 ^ 20
+  pub blocks : given_block size (kept + blocks_of_size size (directory_len streams kept)) + 1 ≤ 2 ^ 20

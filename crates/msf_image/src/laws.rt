@@ -1,9 +1,9 @@
 ghost use Rattle.std.specs.Prelude.{◌≡◌, ◌≤◌, ◌<◌, ◌+◌, ◌^◌, ℕ, List, All, Option, Ok, drop, length};
-ghost use Rattle.srv_edge.specs.Disk.{Torn, headed};
+ghost use Rattle.srv_edge.specs.Disk.{Torn, with_head};
 ghost use Rattle.msf_blocks.specs.Blocks.{IsBlockSize, IsReserved, block_offset};
 ghost use Rattle.msf_blocks.specs.Superblock.{superblock_text};
 ghost use Rattle.msf_image.specs.declared.image.Image.{Image};
-ghost use Rattle.msf_image.specs.Packed.{IsPackable, given, packed, packed_image, packed_super};
+ghost use Rattle.msf_image.specs.Packed.{IsPackable, given_block, packed_file, packed_image, packed_super};
 ghost use Rattle.msf_image.specs.Reads.{IsWhole, block_bytes, read_file};
 ghost use Rattle.msf_image.specs.Relation.{IsApart, IsSpare, Reads, SameSource, SparesSource, contents_in};
 
@@ -27,9 +27,9 @@ pub fn reading_hangs_on_its_source()
     ensures torn { (file other : List ℕ) (limit : ℕ) (image : Image)
         (streams : List (Option (List ℕ))) (at n : ℕ) → Reads file limit image streams
         → SparesSource image file at n → Torn at n file other → Reads other limit image streams }
-    ensures headed { (file : List ℕ) (limit : ℕ) (image : Image) (streams : List (Option (List ℕ)))
+    ensures with_head { (file : List ℕ) (limit : ℕ) (image : Image) (streams : List (Option (List ℕ)))
         → Reads file limit image streams
-        → Reads (headed file (superblock_text image.head)) limit image streams }
+        → Reads (with_head file (superblock_text image.head)) limit image streams }
 {}
 
 /// A law: a torn write leaves the bytes of a block from which its range lies apart; and an image is read from no block
@@ -49,7 +49,7 @@ pub fn torn_write_spares()
 pub fn packed_file_reads()
     ensures reads { (size unknown limit : ℕ) (streams : List (Option (List ℕ))) → unknown < 2 ^ 32
         → IsPackable size streams → (packed_super size unknown streams).blocks ≤ limit
-        → Reads (packed size unknown streams) limit (packed_image size unknown streams)
+        → Reads (packed_file size unknown streams) limit (packed_image size unknown streams)
         (drop 1 streams) }
     ensures whole { (size unknown : ℕ) (streams : List (Option (List ℕ))) → unknown < 2 ^ 32
         → IsPackable size streams → IsWhole (packed_image size unknown streams) }
@@ -58,9 +58,9 @@ pub fn packed_file_reads()
 /// A law: the blocks that a packed file gives are those from 3 on that are not reserved, in rising order and without a
 /// gap.
 pub fn given_in_order()
-    ensures least { (size k : ℕ) → IsBlockSize size → 3 ≤ given size k }
-    ensures unreserved { (size k : ℕ) → IsBlockSize size → ¬ IsReserved size (given size k) }
-    ensures rises { (size j k : ℕ) → IsBlockSize size → j < k → given size j < given size k }
+    ensures least { (size k : ℕ) → IsBlockSize size → 3 ≤ given_block size k }
+    ensures unreserved { (size k : ℕ) → IsBlockSize size → ¬ IsReserved size (given_block size k) }
+    ensures rises { (size j k : ℕ) → IsBlockSize size → j < k → given_block size j < given_block size k }
     ensures none_left { (size b : ℕ) → IsBlockSize size → 3 ≤ b → ¬ IsReserved size b
-        → (k : ℕ) × (given size k ≡ b) }
+        → (k : ℕ) × (given_block size k ≡ b) }
 {}

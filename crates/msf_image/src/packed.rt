@@ -8,7 +8,7 @@ ghost use Rattle.free_page_maps.specs.MapText.{map_text};
 ghost use Rattle.stream_directory.specs.Directory.{absent_size, word};
 ghost use Rattle.msf_image.specs.Reads.{IsWhole};
 ghost use Rattle.msf_image.specs.Relation.{Reads};
-ghost use Rattle.msf_image.specs.Packed.{IsPackable, IsSmall, block_of, file_block, file_of, filled, given, given_before, given_from, none_of, packed, packed_directory, packed_image, packed_listed, packed_map_addr, packed_super, present, stream_blocks, stream_bytes};
+ghost use Rattle.msf_image.specs.Packed.{IsPackable, IsSmall, block_of, file_block, file_of, filled, given_block, given_before, given_from, none_of, packed_file, packed_directory, packed_image, packed_listed, packed_map_addr, packed_super, present, stream_blocks, stream_bytes};
 
 use crate::image::Image;
 use free_page_maps::FreeMap;
@@ -26,7 +26,7 @@ const MOST_STREAMS: usize = 65_536;
 /// all streams once more.
 pub fn new_file(alloc: Global, block: u32, streams: &[Text]) -> Result<Vec<u8>, AllocError>
     requires { IsPackable block (present streams.now) }
-    ensures packed { IfOk result (λ file. file.items ≡ packed block 0 (present streams.now)) }
+    ensures packed { IfOk result (λ file. file.items ≡ packed_file block 0 (present streams.now)) }
     // It reads as these streams, with no free block.
     ensures reads { (limit : ℕ) → (packed_super block 0 (present streams.now)).blocks ≤ limit
         → IfOk result (λ file. Reads file.items limit (packed_image block 0 (present streams.now))
@@ -84,7 +84,7 @@ fn is_small(block: u32, streams: u32, kept: u64) -> bool
     }
     let bytes = 4 + 4 * streams + 4 * kept as u32;
     let last = kept as u32 + blocks_of_size(block, bytes);
-    bytes <= block * block / 4 && given(block, last) < MOST_BLOCKS
+    bytes <= block * block / 4 && given_block(block, last) < MOST_BLOCKS
 }
 
 // How many blocks the streams have.
@@ -129,7 +129,7 @@ fn lay_image(alloc: Global, block: u32, streams: &[Text]) -> Result<NewImage, Al
     let kept = stream_blocks(block, streams) as u32;
     let dir_bytes = 4 + 4 * streams.len() as u32 + 4 * kept;
     let count = blocks_of_size(block, dir_bytes);
-    let map_addr = given(block, kept + count);
+    let map_addr = given_block(block, kept + count);
     let head = Super {
         block,
         map: 1,
@@ -154,7 +154,7 @@ fn lay_image(alloc: Global, block: u32, streams: &[Text]) -> Result<NewImage, Al
 // The file of streams that it can hold.
 fn lay_file(alloc: Global, block: u32, streams: &[Text]) -> Result<Vec<u8>, AllocError>
     requires { IsPackable block (present streams.now) }
-    ensures { IfOk result (λ file. file.items ≡ packed block 0 (present streams.now)) }
+    ensures { IfOk result (λ file. file.items ≡ packed_file block 0 (present streams.now)) }
 {
     let new = lay_image(alloc, block, streams)?;
     let text = write_directory(alloc, &new.image.directory)?;
@@ -195,17 +195,17 @@ fn given_from(alloc: Global, block: u32, first: u32, count: u32) -> Result<Vec<u
 {
     let mut blocks = Vec::with_capacity(alloc, count as usize)?;
     for i in 0..count {
-        blocks.push(given(block, first + i))?;
+        blocks.push(given_block(block, first + i))?;
     }
     Ok(blocks)
 }
 
 // The block of a place among those that are given.
-#[tactic(auto, unfolding(crate::specs::Packed::given))]
-fn given(block: u32, k: u32) -> u32
+#[tactic(auto, unfolding(crate::specs::Packed::given_block))]
+fn given_block(block: u32, k: u32) -> u32
     requires size { IsBlockSize block }
     requires few { k < 2 ^ 30 }
-    ensures { result ≡ given block k }
+    ensures { result ≡ given_block block k }
 {
     3 + k + 2 * (k / (block - 2))
 }

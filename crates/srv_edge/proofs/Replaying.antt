@@ -2,7 +2,7 @@
 use Rattle.std.proofs.Common.{◌≡◌, ◌++◌, inl, inr, ℕ, Bool, true, false, List, [], ◌∷◌, length, Result, Ok, Err, IsOk, IfOk, OnOk, is_ok, is_err, if◌then◌else◌, refl, sym, ◌∙◌, ap, subst}
 use Rattle.std.proofs.lemmas.Bool.{false≢true}
 use Rattle.srv_edge.specs.Contents.{shown}
-use Rattle.srv_edge.specs.Disk.{spliced, Follows, Among, Only, Elapses}
+use Rattle.srv_edge.specs.Disk.{splice, Follows, Among, Only, Elapses}
 use Rattle.srv_edge.specs.Torn.{torn-same}
 use Rattle.srv_edge.specs.Kinds.{place_of, IsStill, IsChange, step_of}
 use Rattle.srv_edge.specs.Replay.{State, IsImageOf, after_kind, state_of, LeftSince, Adds, KeepsAs}
@@ -11,7 +11,7 @@ use Rattle.srv_edge.specs.declared.memory_record.Call.{Call}
 use Rattle.srv_edge.specs.declared.memory_record.CallKind.{CallKind}
 use Rattle.srv_edge.specs.declared.memory_record.CallKind.TheVariants.{Size, Read, Write, Super, Sync}
 use Rattle.srv_edge.specs.declared.memory_record.Contents.{Contents}
-use Rattle.srv_edge.proofs.Padded.{headed-spliced}
+use Rattle.srv_edge.proofs.Padded.{with_head-splice}
 
 -- a call that was pushed
 pub adds_pushed : (before calls after : List Call) (call : Call) (kind : CallKind) (bytes : List ℕ) (done : Bool) → calls ≡ before → after ≡ calls ++ call ∷ [] → call.kind ≡ kind → call.bytes.items ≡ bytes → call.done ≡ done → Adds before kind bytes done after
@@ -42,11 +42,11 @@ refused_seen s Super bytes change = refl
 refused_seen s Sync bytes change = refl
 
 -- a write that was done
-changed_seen : (s : State) (kind : CallKind) (bytes : List ℕ) → IsChange kind → (after_kind s kind bytes true).seen ≡ spliced s.seen (place_of kind) bytes
+changed_seen : (s : State) (kind : CallKind) (bytes : List ℕ) → IsChange kind → (after_kind s kind bytes true).seen ≡ splice s.seen (place_of kind) bytes
 changed_seen s Size bytes change = absurd change
 changed_seen s (Read at) bytes change = absurd change
 changed_seen s (Write at) bytes change = refl
-changed_seen s Super bytes change = sym (headed-spliced s.seen bytes)
+changed_seen s Super bytes change = sym (with_head-splice s.seen bytes)
 changed_seen s Sync bytes change = absurd change
 
 -- what a read gives, as the record has it, after a call that leaves it
@@ -57,11 +57,11 @@ shows_same file file' before after kind bytes done is adds same was =
     subst P (sym is) (was ∙ sym now)
 
 -- and after a write that is done
-pub shows_changed : (file file' : Contents) (before after : List Call) (kind : CallKind) (bytes : List ℕ) → file'.first.items ≡ file.first.items → shown file' ≡ spliced (shown file) (place_of kind) bytes → Adds before kind bytes true after → IsChange kind → shown file ≡ (state_of file.first.items before).seen → shown file' ≡ (state_of file'.first.items after).seen
+pub shows_changed : (file file' : Contents) (before after : List Call) (kind : CallKind) (bytes : List ℕ) → file'.first.items ≡ file.first.items → shown file' ≡ splice (shown file) (place_of kind) bytes → Adds before kind bytes true after → IsChange kind → shown file ≡ (state_of file.first.items before).seen → shown file' ≡ (state_of file'.first.items after).seen
 shows_changed file file' before after kind bytes first done adds change was =
     let s = state_of file.first.items before in
     let now = ap (λ (t : State). t.seen) (state_added file.first.items before kind bytes true after adds) ∙ changed_seen s kind bytes change in
-    done ∙ ap (λ xs. spliced xs (place_of kind) bytes) was ∙ sym now ∙ ap (λ xs. (state_of xs after).seen) (sym first)
+    done ∙ ap (λ xs. splice xs (place_of kind) bytes) was ∙ sym now ∙ ap (λ xs. (state_of xs after).seen) (sym first)
 
 -- time goes on by a call that is kept, or stands still
 time_of : {A E : Type 0} (done : Bool) (first : List ℕ) (calls calls' : List Call) (kind : CallKind) (bytes : List ℕ) (result : Result A E) → KeepsAs done calls kind bytes result calls' → Elapses (length calls) (length calls') (LeftSince first calls) (LeftSince first calls') (IsImageOf (state_of first calls'))

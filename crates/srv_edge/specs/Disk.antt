@@ -2,16 +2,16 @@
 use Rattle.std.specs.Prelude.{◌≡◌, ◌≤◌, ◌<◌, ◌+◌, ◌-◌, ◌++◌, ◌⊎◌, ℕ, List, length, take, drop, replicate, slice_index}
 
 -- The file with these bytes at this place. Between the old end and the place stands the fill.
-abbrev pub spliced_with : ℕ → List ℕ → ℕ → List ℕ → List ℕ
-spliced_with fill file at bytes = take at file ++ replicate (at - length file) fill ++ bytes ++ drop (at + length bytes) file
+abbrev pub splice_with : ℕ → List ℕ → ℕ → List ℕ → List ℕ
+splice_with fill file at bytes = take at file ++ replicate (at - length file) fill ++ bytes ++ drop (at + length bytes) file
 
 -- the same with zeros there
-abbrev pub spliced : List ℕ → ℕ → List ℕ → List ℕ
-spliced file at bytes = spliced_with 0 file at bytes
+abbrev pub splice : List ℕ → ℕ → List ℕ → List ℕ
+splice file at bytes = splice_with 0 file at bytes
 
 -- the file with this head in the place of its first bytes
-abbrev pub headed : List ℕ → List ℕ → List ℕ
-headed file head = head ++ drop (length head) file
+abbrev pub with_head : List ℕ → List ℕ → List ℕ
+with_head file head = head ++ drop (length head) file
 
 -- A write of n bytes that a crash may cut short: any bytes in the range and past the old end, the same elsewhere.
 pub record Torn (at n : ℕ) (old new : List ℕ) : Type 0 where
@@ -21,7 +21,7 @@ pub record Torn (at n : ℕ) (old new : List ℕ) : Type 0 where
 
 -- a head that is there whole or not at all
 abbrev pub Whole : List ℕ → List ℕ → List ℕ → Type 0
-Whole head old new = (new ≡ old) ⊎ (new ≡ headed old head)
+Whole head old new = (new ≡ old) ⊎ (new ≡ with_head old head)
 
 -- each new image is an old one after a step
 abbrev pub Follows : (List ℕ → List ℕ → Type 0) → (List ℕ → Type 0) → (List ℕ → Type 0) → Type 0

@@ -2,8 +2,8 @@
 use Rattle.std.proofs.Common.{◌≡◌, ◌≤◌, ◌<◌, ◌+◌, ◌++◌, ◌⊎◌, inl, inr, ℕ, Bool, true, false, List, [], ◌∷◌, length, get_or, take, replicate, refl, sym, ◌∙◌, ap, ap₂, subst, arith}
 use Rattle.std.proofs.lemmas.List.{length-replicate, length_push, take_more, take-append-le, take_all}
 use Rattle.std.proofs.lemmas.Bool.{cases_lt}
-use Rattle.srv_edge.specs.Disk.{spliced_with, Torn, Among, Elapses}
-use Rattle.srv_edge.specs.Torn.{torn-spliced, torn-same}
+use Rattle.srv_edge.specs.Disk.{splice_with, Torn, Among, Elapses}
+use Rattle.srv_edge.specs.Torn.{torn-splice, torn-same}
 use Rattle.srv_edge.specs.Replay.{Step, torn, whole, State, IsImage, IsImageOf, after_kind, after_call, after_calls, first_state, state_of, LeftSince, Adds, image_from, image_of}
 use Rattle.srv_edge.specs.Kinds.{IsStill}
 use Rattle.srv_edge.specs.declared.memory_record.Call.{Call}
@@ -14,7 +14,7 @@ use Rattle.srv_edge.specs.declared.memory_record.CallKind.TheVariants.{Size, Rea
 seen_after : (s : State) (kind : CallKind) (bytes : List ℕ) (done : Bool) → IsImageOf s s.seen → IsImageOf (after_kind s kind bytes done) (after_kind s kind bytes done).seen
 seen_after s Size bytes done image = image
 seen_after s (Read at) bytes done image = image
-seen_after s (Write at) bytes true image = (s.seen, image, torn-spliced 0 s.seen at bytes)
+seen_after s (Write at) bytes true image = (s.seen, image, torn-splice 0 s.seen at bytes)
 seen_after s (Write at) bytes false image = (s.seen, image, torn-same at (length bytes) s.seen)
 seen_after s Super bytes true image = (s.seen, image, inr refl)
 seen_after s Super bytes false image = (s.seen, image, inl refl)
@@ -119,8 +119,8 @@ image_is : (settled : List ℕ) (steps : List Step) (fill : ℕ) (heads : Bool) 
 image_is settled [] fill heads = refl
 image_is settled (torn at n ∷ older) fill heads =
     let was = image_from settled older fill heads in
-    let P : ℕ → Type 0 = λ m. Torn at m was (spliced_with fill was at (replicate n fill)) in
-    (was, image_is settled older fill heads, subst P (length-replicate {A = ℕ} n fill) (torn-spliced fill was at (replicate n fill)))
+    let P : ℕ → Type 0 = λ m. Torn at m was (splice_with fill was at (replicate n fill)) in
+    (was, image_is settled older fill heads, subst P (length-replicate {A = ℕ} n fill) (torn-splice fill was at (replicate n fill)))
 image_is settled (whole head ∷ older) fill true = (image_from settled older fill true, image_is settled older fill true, inr refl)
 image_is settled (whole head ∷ older) fill false = (image_from settled older fill false, image_is settled older fill false, inl refl)
 

@@ -1,7 +1,7 @@
 -- A record of calls on a file, and what a crash may make of the file after them.
 use Rattle.std.specs.Prelude.{◌≡◌, ◌≤◌, ◌<◌, ◌+◌, ◌++◌, ◌⊎◌, ℕ, slice_index, Bool, true, false, not, if◌then◌else◌, List, [], ◌∷◌, length, take, replicate, ◌==◌, Result, MatchResult}
 use Rattle.std.specs.List.{list_any}
-use Rattle.srv_edge.specs.Disk.{spliced, spliced_with, headed, Torn, Whole}
+use Rattle.srv_edge.specs.Disk.{splice, splice_with, with_head, Torn, Whole}
 use Rattle.srv_edge.specs.declared.memory_record.Call.{Call}
 use Rattle.srv_edge.specs.declared.memory_record.CallKind.{CallKind}
 use Rattle.srv_edge.specs.declared.memory_record.CallKind.TheVariants.{Size, Read, Write, Super, Sync}
@@ -31,9 +31,9 @@ abbrev pub after_kind : State → CallKind → List ℕ → Bool → State
 after_kind s Size bytes done = s
 after_kind s (Read at) bytes done = s
 after_kind s (Write at) bytes done =
-    record { settled = s.settled; steps = torn at (length bytes) ∷ s.steps; seen = if done then spliced s.seen at bytes else s.seen }
+    record { settled = s.settled; steps = torn at (length bytes) ∷ s.steps; seen = if done then splice s.seen at bytes else s.seen }
 after_kind s Super bytes done =
-    record { settled = s.settled; steps = whole bytes ∷ s.steps; seen = if done then headed s.seen bytes else s.seen }
+    record { settled = s.settled; steps = whole bytes ∷ s.steps; seen = if done then with_head s.seen bytes else s.seen }
 after_kind s Sync bytes done = if done then record { settled = s.seen; steps = []; seen = s.seen } else s
 
 abbrev pub after_call : State → Call → State
@@ -58,9 +58,9 @@ LeftSince file calls t c = (k : ℕ) × (t ≤ k) × (k ≤ length calls) × IsI
 -- heads that are not settled are all there or none.
 abbrev pub image_from : List ℕ → List Step → ℕ → Bool → List ℕ
 image_from settled [] fill heads = settled
-image_from settled (torn at n ∷ older) fill heads = spliced_with fill (image_from settled older fill heads) at (replicate n fill)
+image_from settled (torn at n ∷ older) fill heads = splice_with fill (image_from settled older fill heads) at (replicate n fill)
 image_from settled (whole head ∷ older) fill heads =
-    if heads then headed (image_from settled older fill heads) head else image_from settled older fill heads
+    if heads then with_head (image_from settled older fill heads) head else image_from settled older fill heads
 
 abbrev pub image_of : State → ℕ → Bool → List ℕ
 image_of s fill heads = image_from s.settled s.steps fill heads

@@ -1,6 +1,6 @@
 ghost use Rattle.std.specs.Prelude.{◌≡◌, ◌≤◌, ◌+◌, ◌^◌, ℕ, Bool, false, IsTrue, List, [], length, take, drop, IfOk, OnOk, IsErr};
 ghost use Rattle.srv_edge.specs.Count.{HasCause};
-ghost use Rattle.srv_edge.specs.Disk.{spliced, headed, Torn, Whole, Follows, Among, Only, Elapses};
+ghost use Rattle.srv_edge.specs.Disk.{splice, with_head, Torn, Whole, Follows, Among, Only, Elapses};
 
 use crate::failed::Failed;
 
@@ -71,7 +71,7 @@ pub trait Device {
         requires behind_head { 512 ≤ at }
         requires end { at + length bytes.now ≤ 2 ^ 35 }
         ensures written { IsTrue tells
-            → OnOk result (seen self.new ≡ spliced (seen self.old) at bytes.now) }
+            → OnOk result (seen self.new ≡ splice (seen self.old) at bytes.now) }
         ensures crash { Follows (Torn at (length bytes.now)) (may_leave self.old)
             (may_leave self.new) }
         ensures time { Elapses (moment self.old) (moment self.new)
@@ -84,7 +84,7 @@ pub trait Device {
     /// (`written`).
     fn write_super(&mut self, bytes: &[u8; 56]) -> Result<(), Failed>
         ensures written { IsTrue tells
-            → OnOk result (seen self.new ≡ headed (seen self.old) bytes.now) }
+            → OnOk result (seen self.new ≡ with_head (seen self.old) bytes.now) }
         ensures crash { Follows (Whole bytes.now) (may_leave self.old) (may_leave self.new) }
         ensures time { Elapses (moment self.old) (moment self.new)
             (left_since self.old) (left_since self.new) (may_leave self.new) }

@@ -1,5 +1,5 @@
 ghost use Rattle.std.specs.Prelude.{◌≡◌, ◌≤◌, ◌<◌, ◌+◌, ◌^◌, true, [], length, take, drop, slice_get, vec_len, vec_capacity, refl, IfOk, OnOk};
-ghost use Rattle.srv_edge.specs.Disk.{spliced, headed, Torn, Whole, Follows, Among, Only};
+ghost use Rattle.srv_edge.specs.Disk.{splice, with_head, Torn, Whole, Follows, Among, Only};
 ghost use Rattle.srv_edge.specs.Contents.{shown};
 ghost use Rattle.srv_edge.specs.Kinds.{place_of, IsStill, IsChange};
 ghost use Rattle.srv_edge.specs.Replay.{State, IsImageOf, LeftSince, KeepsAs, after_kind, image_of, is_to_fail, state_of};
@@ -140,7 +140,7 @@ impl MemDevice {
         requires place { at ≡ place_of kind }
         requires end { at + length bytes.now ≤ 2 ^ 35 }
         ensures kept { KeepsCall self.old kind bytes.now result self.new }
-        ensures written { OnOk result (seen_by self.new ≡ spliced (seen_by self.old) at bytes.now) }
+        ensures written { OnOk result (seen_by self.new ≡ splice (seen_by self.old) at bytes.now) }
     {
         if self.is_to_fail() {
             return self.keep(kind, bytes, false);
@@ -203,7 +203,7 @@ impl Device for MemDevice {
     fn write(&mut self, at: u64, bytes: &[u8]) -> Result<(), Failed>
         requires end { at + length bytes.now ≤ 2 ^ 35 }
         ensures kept { KeepsCall self.old (CallKind.Write at) bytes.now result self.new }
-        ensures written { OnOk result (seen_by self.new ≡ spliced (seen_by self.old) at bytes.now) }
+        ensures written { OnOk result (seen_by self.new ≡ splice (seen_by self.old) at bytes.now) }
         ensures crash { Follows (Torn at (length bytes.now)) (images_of self.old)
             (images_of self.new) }
         ensures time { TimeElapses self.old self.new }
@@ -213,7 +213,7 @@ impl Device for MemDevice {
 
     fn write_super(&mut self, bytes: &[u8; 56]) -> Result<(), Failed>
         ensures kept { KeepsCall self.old CallKind.Super bytes.now result self.new }
-        ensures written { OnOk result (seen_by self.new ≡ headed (seen_by self.old) bytes.now) }
+        ensures written { OnOk result (seen_by self.new ≡ with_head (seen_by self.old) bytes.now) }
         ensures crash { Follows (Whole bytes.now) (images_of self.old) (images_of self.new) }
         ensures time { TimeElapses self.old self.new }
     {

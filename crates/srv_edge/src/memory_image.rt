@@ -1,5 +1,5 @@
 ghost use Rattle.std.specs.Prelude.{◌≡◌, ◌≤◌, ◌+◌, ◌^◌, if◌then◌else◌, length, replicate, IfOk, OnOk};
-ghost use Rattle.srv_edge.specs.Disk.{spliced, spliced_with, headed};
+ghost use Rattle.srv_edge.specs.Disk.{splice, splice_with, with_head};
 ghost use Rattle.srv_edge.specs.Replay.{State, after_call, image_of, state_of};
 
 use crate::memory_record::{Call, CallKind};
@@ -43,10 +43,10 @@ impl Replay {
         requires { at + length bytes.now ≤ 2 ^ 35 }
         ensures seen { OnOk result
             (self.new.seen.items
-            ≡ (if done then spliced self.old.seen.items at bytes.now else self.old.seen.items)) }
+            ≡ (if done then splice self.old.seen.items at bytes.now else self.old.seen.items)) }
         ensures image { OnOk result
             (self.new.image.items
-            ≡ spliced_with fill self.old.image.items at (replicate (length bytes.now) fill)) }
+            ≡ splice_with fill self.old.image.items at (replicate (length bytes.now) fill)) }
     {
         if done {
             overwrite(&mut self.seen, at, bytes)?;
@@ -58,10 +58,10 @@ impl Replay {
         requires { length bytes.now ≤ 2 ^ 35 }
         ensures seen { OnOk result
             (self.new.seen.items
-            ≡ (if done then headed self.old.seen.items bytes.now else self.old.seen.items)) }
+            ≡ (if done then with_head self.old.seen.items bytes.now else self.old.seen.items)) }
         ensures image { OnOk result
             (self.new.image.items
-            ≡ (if last_super then headed self.old.image.items bytes.now else
+            ≡ (if last_super then with_head self.old.image.items bytes.now else
             self.old.image.items)) }
     {
         put_head(&mut self.seen, bytes, done)?;
@@ -86,7 +86,7 @@ impl Replay {
 fn put_head(file: &mut Vec<u8>, head: &[u8], there: bool) -> Result<(), AllocError>
     requires { length head.now ≤ 2 ^ 35 }
     ensures { OnOk result
-        (file.new.items ≡ (if there then headed file.old.items head.now else file.old.items)) }
+        (file.new.items ≡ (if there then with_head file.old.items head.now else file.old.items)) }
 {
     if there {
         overwrite(file, 0, head)?;

@@ -1,5 +1,5 @@
 ghost use Rattle.std.specs.Prelude.{◌≡◌, ◌≤◌, ◌+◌, ◌^◌, length, vec_len, IfOk, OnOk, OnErr};
-ghost use Rattle.srv_edge.specs.Disk.{spliced};
+ghost use Rattle.srv_edge.specs.Disk.{splice};
 ghost use Rattle.srv_edge.specs.Kinds.{place_of};
 
 use crate::range::overwrite;
@@ -64,7 +64,7 @@ impl Contents {
     pub fn write(&mut self, alloc: Global, at: usize, bytes: &[u8]) -> Result<(), AllocError>
         requires { at + length bytes.now ≤ 2 ^ 35 }
         ensures first { self.new.first ≡ self.old.first }
-        ensures ok { OnOk result (shown self.new ≡ spliced (shown self.old) at bytes.now) }
+        ensures ok { OnOk result (shown self.new ≡ splice (shown self.old) at bytes.now) }
         ensures err { OnErr result (shown self.new ≡ shown self.old) }
     {
         let mut later = match self.later.take() {

@@ -1,5 +1,5 @@
 ghost use Rattle.std.specs.Prelude.{◌≡◌, ◌≤◌, ◌<◌, ◌+◌, ◌-◌, ◌^◌, ◌++◌, length, take, drop, replicate, vec_len, vec_capacity, OnOk, OnErr};
-ghost use Rattle.srv_edge.specs.Disk.{spliced, spliced_with};
+ghost use Rattle.srv_edge.specs.Disk.{splice, splice_with};
 
 use std::alloc::AllocError;
 
@@ -8,7 +8,7 @@ use std::alloc::AllocError;
 #[tactic(auto, using(crate::proofs::Padded::written))]
 pub fn overwrite(file: &mut Vec<u8>, at: usize, bytes: &[u8]) -> Result<(), AllocError>
     requires { at + length bytes.now ≤ 2 ^ 35 }
-    ensures ok { OnOk result (file.new.items ≡ spliced file.old.items at bytes.now) }
+    ensures ok { OnOk result (file.new.items ≡ splice file.old.items at bytes.now) }
     ensures err { OnErr result (file.new.items ≡ file.old.items) }
     ensures full { OnErr result (vec_capacity file.old < at + length bytes.now) }
     ensures room { vec_capacity file.old ≤ vec_capacity file.new }
@@ -23,7 +23,7 @@ pub fn overwrite(file: &mut Vec<u8>, at: usize, bytes: &[u8]) -> Result<(), Allo
 pub fn fill_range(file: &mut Vec<u8>, at: usize, n: usize, fill: u8) -> Result<(), AllocError>
     requires { at + n ≤ 2 ^ 35 }
     ensures { OnOk result
-        (file.new.items ≡ spliced_with fill file.old.items at (replicate n fill)) }
+        (file.new.items ≡ splice_with fill file.old.items at (replicate n fill)) }
 {
     lengthen(file, at + n, fill)?;
     fill_within(file, at, n, fill);

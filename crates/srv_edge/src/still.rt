@@ -1,5 +1,5 @@
 ghost use Rattle.std.specs.Prelude.{◌≡◌, ◌≤◌, ◌+◌, ◌^◌, ◌↔◌, length, take, drop, vec_len, vec_capacity, IsOk, IfOk, OnOk};
-ghost use Rattle.srv_edge.specs.Disk.{spliced, headed};
+ghost use Rattle.srv_edge.specs.Disk.{splice, with_head};
 
 use crate::device::Device;
 use crate::failed::Failed;
@@ -43,7 +43,7 @@ impl StillDevice {
     fn put(&mut self, at: usize, bytes: &[u8]) -> Result<(), Failed>
         requires { at + length bytes.now ≤ 2 ^ 35 }
         ensures fits { IsOk result ↔ (at + length bytes.now ≤ room_of self.old) }
-        ensures bytes { Leaves result self.old (spliced (still_bytes self.old) at bytes.now)
+        ensures bytes { Leaves result self.old (splice (still_bytes self.old) at bytes.now)
             self.new }
         ensures call { CallsStill self.old result self.new }
     {
@@ -94,7 +94,7 @@ impl Device for StillDevice {
     fn write(&mut self, at: u64, bytes: &[u8]) -> Result<(), Failed>
         requires end { at + length bytes.now ≤ 2 ^ 35 }
         ensures fits { IsOk result ↔ (at + length bytes.now ≤ room_of self.old) }
-        ensures bytes { Leaves result self.old (spliced (still_bytes self.old) at bytes.now)
+        ensures bytes { Leaves result self.old (splice (still_bytes self.old) at bytes.now)
             self.new }
         ensures call { CallsStill self.old result self.new }
     {
@@ -103,7 +103,7 @@ impl Device for StillDevice {
 
     fn write_super(&mut self, bytes: &[u8; 56]) -> Result<(), Failed>
         ensures fits { IsOk result ↔ (56 ≤ room_of self.old) }
-        ensures bytes { Leaves result self.old (headed (still_bytes self.old) bytes.now) self.new }
+        ensures bytes { Leaves result self.old (with_head (still_bytes self.old) bytes.now) self.new }
         ensures call { CallsStill self.old result self.new }
     {
         self.put(0, bytes)

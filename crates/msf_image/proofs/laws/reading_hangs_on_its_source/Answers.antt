@@ -10,5 +10,5 @@ returns-clause-same c = same_reads
 pub returns-clause-torn : goal.returns-clause-torn
 returns-clause-torn c = torn_reads
 
-pub returns-clause-headed : goal.returns-clause-headed
-returns-clause-headed c = headed_reads
+pub returns-clause-with_head : goal.returns-clause-with_head
+returns-clause-with_head c = headed_reads

@@ -24,8 +24,8 @@ overflow_add-kept c =
     let count = c.blocks_of_size-count.ensures ∙ ap (blocks_of_size c.args.block) (bytes_as c.args.block c.stream_blocks-kept.result c.args.streams.now c.stream_blocks-kept.ensures) in
     omega (arith, count, c.stream_blocks-kept.ensures, room.last)
 
-pub given-map_addr-requires-clause-few : goal.given-map_addr-requires-clause-few
-given-map_addr-requires-clause-few c =
+pub given_block-map_addr-requires-clause-few : goal.given_block-map_addr-requires-clause-few
+given_block-map_addr-requires-clause-few c =
     let room = has_room c.args.block (present c.args.streams.now) c.requires in
     let count = c.blocks_of_size-count.ensures ∙ ap (blocks_of_size c.args.block) (bytes_as c.args.block c.stream_blocks-kept.result c.args.streams.now c.stream_blocks-kept.ensures) in
     omega (arith, count, c.stream_blocks-kept.ensures, room.last)
@@ -35,7 +35,7 @@ overflow_add-head c =
     let room = has_room c.args.block (present c.args.streams.now) c.requires in
     let count = c.blocks_of_size-count.ensures ∙ ap (blocks_of_size c.args.block) (bytes_as c.args.block c.stream_blocks-kept.result c.args.streams.now c.stream_blocks-kept.ensures) in
     let addr = addr_as c.args.block c.stream_blocks-kept.result c.blocks_of_size-count.result (present c.args.streams.now) c.stream_blocks-kept.ensures count in
-    omega (arith, c.given-map_addr.ensures, addr, room.map_addr)
+    omega (arith, c.given_block-map_addr.ensures, addr, room.map_addr)
 
 pub given_from-requires-clause-few : goal.given_from-requires-clause-few
 given_from-requires-clause-few c =
@@ -48,8 +48,8 @@ returns-clause-image c =
     let streams = present c.args.streams.now in
     let bytes = bytes_as c.args.block c.stream_blocks-kept.result c.args.streams.now c.stream_blocks-kept.ensures in
     let count = c.blocks_of_size-count.ensures ∙ ap (blocks_of_size c.args.block) bytes in
-    let addr = c.given-map_addr.ensures ∙ addr_as c.args.block c.stream_blocks-kept.result c.blocks_of_size-count.result streams c.stream_blocks-kept.ensures count in
-    image_as c.args.block (4 + 4 * length c.args.streams.now + 4 * c.stream_blocks-kept.result) c.given-map_addr.result streams c.in_ok-directory.directory c.in_ok-free.free bytes addr c.in_ok-directory.ensures c.in_ok-free.ensures
+    let addr = c.given_block-map_addr.ensures ∙ addr_as c.args.block c.stream_blocks-kept.result c.blocks_of_size-count.result streams c.stream_blocks-kept.ensures count in
+    image_as c.args.block (4 + 4 * length c.args.streams.now + 4 * c.stream_blocks-kept.result) c.given_block-map_addr.result streams c.in_ok-directory.directory c.in_ok-free.free bytes addr c.in_ok-directory.ensures c.in_ok-free.ensures
 
 pub returns-clause-listed : goal.returns-clause-listed
 returns-clause-listed c =
