@@ -25,6 +25,7 @@ mod sink;
 mod source;
 pub mod space;
 mod standard;
+mod steps;
 mod still;
 #[cfg(test)]
 mod tests;
@@ -46,5 +47,6 @@ pub use crate::records::RecordList;
 pub use crate::sink::Sink;
 pub use crate::source::Source;
 pub use crate::standard::{StdIn, StdOut};
+pub use crate::steps::Steps;
 pub use crate::still::StillDevice;
 pub use crate::words::{half, half_at, word, word_at};
