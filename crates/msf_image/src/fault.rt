@@ -48,7 +48,8 @@ impl DamageKind {
     }
 }
 
-/// The first test that a file fails, and where: an offset in the superblock or the directory, or a block's number.
+/// The first test that a file fails, and where: an offset in the superblock or the directory, or a
+/// block's number.
 #[derive(Clone, Copy, Debug, PartialEq, Eq)]
 pub struct Damage {
     pub kind: DamageKind,

@@ -23,8 +23,9 @@ pub struct Image {
 }
 
 impl Image {
-    /// The content of a stream, by its number. An absent stream, one that is not there, and stream 0, of which no blocks
-    /// are kept, give no bytes. It takes memory for the stream's blocks alone.
+    /// The content of a stream, by its number. An absent stream, one that is not there, and stream
+    /// 0, of which no blocks are kept, give no bytes. It takes memory for the stream's blocks
+    /// alone.
     pub fn read_stream<D: Device>(
         &self,
         alloc: Global,

@@ -1,4 +1,5 @@
-//! A file read as its container: superblock, directory and free blocks, or its first damage; and a new file made of streams.
+//! A file read as its container: superblock, directory and free blocks, or its first damage; and a
+//! new file made of streams.
 #![tactic(auto)]
 
 mod blocks;

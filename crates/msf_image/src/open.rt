@@ -1,4 +1,5 @@
-//! Opening: the superblock, the directory and the active free block map, each judged before what stands behind it is read.
+//! Opening: the superblock, the directory and the active free block map, each judged before what
+//! stands behind it is read.
 
 ghost use Rattle.std.specs.Prelude.{◌≡◌, ◌≤◌, ◌<◌, ◌+◌, ◌*◌, ◌^◌, IsTrue, false, All, Ok, [], ◌∷◌, find, length, take, drop, IfOk, OnOk, IsErrOf};
 ghost use Rattle.std.specs.List.{flat_map};
@@ -24,8 +25,8 @@ use srv_edge::Device;
 use std::alloc::{AllocError, Global};
 use stream_directory::{Directory, Stream, judge, read_directory_behind, words_of};
 
-/// Reads a file as its container, which may have at most so many blocks. Nothing is written. It takes memory for one
-/// block, the directory and the map alone, whatever the file's length says.
+/// Reads a file as its container, which may have at most so many blocks. Nothing is written. It
+/// takes memory for one block, the directory and the map alone, whatever the file's length says.
 pub fn open_image<D: Device>(alloc: Global, device: &mut D, limit: u32) -> Result<Image, OpenFault>
     // What is read is what the file reads as, and the damage is its first.
     ensures reads { IsTrue D.tells → Tells damage_in (λ image. image) result
@@ -116,7 +117,8 @@ fn read_listed<D: Device>(
     Ok(listed)
 }
 
-// The block map's own number, and the numbers at its front of the blocks in which the directory lies.
+// The block map's own number, and the numbers at its front of the blocks in which the directory
+// lies.
 fn listed_in(alloc: Global, head: &Super, block_map: &[u8]) -> Result<Vec<u32>, AllocError>
     requires passes { IsSuper head.now }
     requires whole { length block_map.now ≡ head.now.block }

@@ -46,7 +46,8 @@ fn second_map_is_active(rt: HostRuntime) -> Result<(), Fail> {
     Ok(())
 }
 
-// Opening makes five calls, and a stream of two blocks two more. At each of those the device fails once.
+// Opening makes five calls, and a stream of two blocks two more. At each of those the device fails
+// once.
 #[test]
 fn stream_over_a_failing_device(rt: HostRuntime) -> Result<(), Fail> {
     let alloc = rt.alloc();

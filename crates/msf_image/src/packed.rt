@@ -1,4 +1,5 @@
-//! The packed file: streams in a file that has no free block. docs/FORMAT.md says where each block stands.
+//! The packed file: streams in a file that has no free block. docs/FORMAT.md says where each block
+//! stands.
 
 ghost use Rattle.std.specs.Prelude.{◌≡◌, ◌≤◌, ◌<◌, ◌↔◌, ℕ, ◌+◌, ◌*◌, ◌^◌, ◌++◌, [], None, All, drop, length, replicate, slice_index_or, IsTrue, IfOk, OnOk};
 ghost use Rattle.std.specs.List.{flat_map};
@@ -22,8 +23,8 @@ const MOST_BLOCKS: u32 = 1_048_576;
 
 const MOST_STREAMS: usize = 65_536;
 
-/// The packed file of these streams, whose number without a known meaning is 0. It takes memory for the file and for
-/// all streams once more.
+/// The packed file of these streams, whose number without a known meaning is 0. It takes memory for
+/// the file and for all streams once more.
 pub fn new_file(alloc: Global, block: u32, streams: &[Text]) -> Result<Vec<u8>, AllocError>
     requires { IsPackable block (present streams.now) }
     ensures packed { IfOk result (λ file. file.items ≡ packed_file block 0 (present streams.now)) }
@@ -108,8 +109,8 @@ pub struct NewImage {
     pub listed: Vec<u32>,
 }
 
-/// The image of the packed file of these streams, whose number without a known meaning is 0. It takes memory for the
-/// directory and the map alone.
+/// The image of the packed file of these streams, whose number without a known meaning is 0. It
+/// takes memory for the directory and the map alone.
 pub fn new_image(alloc: Global, block: u32, streams: &[Text]) -> Result<NewImage, AllocError>
     requires { IsPackable block (present streams.now) }
     ensures image { IfOk result (λ new. new.image ≡ packed_image block 0 (present streams.now)) }

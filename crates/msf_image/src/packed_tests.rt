@@ -82,7 +82,8 @@ fn one_small_stream(rt: HostRuntime) -> Result<(), Fail> {
     Ok(())
 }
 
-// Streams 1, 2, 4 and 7 have a block each, the directory has block 7, and the block map is block 8, at any size.
+// Streams 1, 2, 4 and 7 have a block each, the directory has block 7, and the block map is block 8,
+// at any size.
 #[test]
 fn eight_streams(rt: HostRuntime) -> Result<(), Fail> {
     let alloc = rt.alloc();
@@ -104,7 +105,8 @@ fn eight_streams(rt: HostRuntime) -> Result<(), Fail> {
         assert_eq!(rt; map.next(), Some(&0x00));
         assert_eq!(rt; map.next(), Some(&0xfe));
         assert!(rt; map.all(|byte| *byte == 0xff));
-        // The directory begins with the number of its streams, and the block map names its one block.
+        // The directory begins with the number of its streams, and the block map names its one
+        // block.
         assert_eq!(rt; file.get(7 * block), Some(&8));
         assert_eq!(rt; file.get(8 * block), Some(&7));
         let mut number = 0u8;
@@ -128,12 +130,14 @@ fn eight_streams(rt: HostRuntime) -> Result<(), Fail> {
     Ok(())
 }
 
-// Past block 512 stand two more blocks of the maps, and the second block of map 1 has meaning past block 4095.
+// Past block 512 stand two more blocks of the maps, and the second block of map 1 has meaning past
+// block 4095.
 #[test]
 fn second_map_pair(rt: HostRuntime) -> Result<(), Fail> {
     let alloc = rt.alloc();
     let file = made(alloc, 512, &streams_of(alloc, &[0, 4200 * 512, 5])?)?;
-    // 4,201 blocks of streams, 33 of the directory and the block map, behind 3 and 2 for each of 8 runs.
+    // 4,201 blocks of streams, 33 of the directory and the block map, behind 3 and 2 for each of 8
+    // runs.
     assert_eq!(rt; file.len(), 4_254 * 512);
     let blocks = blocks_of(alloc, &file, 1)?;
     assert_eq!(rt; blocks.len(), 4_200);
@@ -174,8 +178,8 @@ fn each_size(rt: HostRuntime) -> Result<(), Fail> {
     Ok(())
 }
 
-// No packed file has a block of this size, a first stream that is not empty, more directory than one block can list,
-// or more blocks.
+// No packed file has a block of this size, a first stream that is not empty, more directory than
+// one block can list, or more blocks.
 #[test]
 fn not_packable(rt: HostRuntime) -> Result<(), Fail> {
     let alloc = rt.alloc();

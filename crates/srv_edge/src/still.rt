@@ -103,7 +103,8 @@ impl Device for StillDevice {
 
     fn write_super(&mut self, bytes: &[u8; 56]) -> Result<(), Failed>
         ensures fits { IsOk result ↔ (56 ≤ room_of self.old) }
-        ensures bytes { Leaves result self.old (with_head (still_bytes self.old) bytes.now) self.new }
+        ensures bytes { Leaves result self.old (with_head (still_bytes self.old) bytes.now)
+            self.new }
         ensures call { CallsStill self.old result self.new }
     {
         self.put(0, bytes)

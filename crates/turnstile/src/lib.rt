@@ -1,5 +1,5 @@
-//! One history for all threads, over any value: threads take turns on the value by a ticket, and each pass knows a beginning of the
-//! history and its own calls in it.
+//! One history for all threads, over any value: threads take turns on the value by a ticket, and
+//! each pass knows a beginning of the history and its own calls in it.
 #![tactic(auto)]
 
 mod history;

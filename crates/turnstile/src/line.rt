@@ -19,7 +19,8 @@ pub const SERVING: usize = 1;
 /// The word with the number of entries filed.
 pub const FRONT: usize = 2;
 
-/// The first bell. The pass with the ticket t sleeps on the bell t modulo 256: since at most 255 passes wait, no two sleep on one.
+/// The first bell. The pass with the ticket t sleeps on the bell t modulo 256: since at most 255
+/// passes wait, no two sleep on one.
 const BELLS: usize = 3;
 
 /// All words.
@@ -31,7 +32,8 @@ const AWAKE: u64 = 0;
 /// A bell that a pass sleeps on, or is about to.
 const ASLEEP: u64 = 1;
 
-/// So often a pass looks before it sleeps: a short turn of another ends sooner, and a long one is slept through.
+/// So often a pass looks before it sleeps: a short turn of another ends sooner, and a long one is
+/// slept through.
 const LOOKS: u32 = 64;
 
 fn bell_of(ticket: u64) -> usize

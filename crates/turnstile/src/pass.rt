@@ -14,7 +14,8 @@ use std::alloc::{AllocFailed, Global};
 use std::marker::Model;
 use std::snapshot::Snapshot;
 
-/// A value and the line of those who want a turn at it. It is shared by reference, and has to be closed in the end.
+/// A value and the line of those who want a turn at it. It is shared by reference, and has to be
+/// closed in the end.
 pub struct Turnstile<V: Historied> {
     pub(crate) table: Walls<V>,
 }
@@ -63,7 +64,8 @@ fn only<V>(mut slots: Vec<Place<V>>) -> V
 }
 
 impl<V: Historied> Turnstile<V> {
-    /// The turnstile round a value with no entry yet, and its pass 0. Where there is no memory, the value comes back.
+    /// The turnstile round a value with no entry yet, and its pass 0. Where there is no memory, the
+    /// value comes back.
     pub fn new(alloc: Global, value: V) -> Result<(Turnstile<V>, Pass<V>), V>
         requires { V.entries value ≡ [] }
         ensures ok { IfOk result (λ r. r.1 ≡ opening_pass r.0 (V.basis value)) }
@@ -91,7 +93,8 @@ impl<V: Historied> Turnstile<V> {
         }
     }
 
-    /// How many entries the history has by now, all of which the pass has then seen. It waits for nobody.
+    /// How many entries the history has by now, all of which the pass has then seen. It waits for
+    /// nobody.
     pub fn front(&self, pass: &mut Pass<V>) -> u32
         requires idle { IsIdleAt self.now pass.old }
         ensures count { result ≡ length pass.new.seen }

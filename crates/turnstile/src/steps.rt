@@ -22,7 +22,8 @@ pub fn sight<V: Historied>(gate: &Gate<V>, chair: &mut Chair<V>) -> u32
     requires idle { chair.old.me.0.stage ≡ Idle }
     requires pass { (n : ℕ) × (chair.old.me.0.role ≡ Caller n) }
     ensures seat { IsSameSeat chair.old chair.new }
-    ensures sights { (log : List Entry) × Sights V.law chair.old.me.0 result log × (chair.new.me ≡ (saw log chair.old.me.0, chair.old.me.1)) }
+    ensures sights { (log : List Entry) × Sights V.law chair.old.me.0 result log
+        × (chair.new.me ≡ (saw log chair.old.me.0, chair.old.me.1)) }
 {
     gate.load::<Front>(chair, FRONT) as u32
 }
@@ -34,7 +35,9 @@ pub fn claim<V: Historied>(rt: &impl Wait, gate: &Gate<V>, chair: &mut Chair<V>)
     requires pass { (n : ℕ) × (chair.old.me.0.role ≡ Caller n) }
     ensures seat { IsSameSeat chair.old chair.new }
     ensures basis { V.basis result ≡ chair.old.me.0.basis }
-    ensures sights { (n : ℕ) × (t : ℕ) × Sights V.law chair.old.me.0 n (V.entries result) × (chair.new.me ≡ (staged (Loaded t) (saw (V.entries result) chair.old.me.0), (0, Empty) ∷ [])) }
+    ensures sights { (n : ℕ) × (t : ℕ) × Sights V.law chair.old.me.0 n (V.entries result)
+        × (chair.new.me
+        ≡ (staged (Loaded t) (saw (V.entries result) chair.old.me.0), (0, Empty) ∷ [])) }
 {
     stand(rt, gate, chair);
     gate.load::<Take>(chair, FRONT);
@@ -46,12 +49,15 @@ pub fn announce<V: Historied>(gate: &Gate<V>, chair: &mut Chair<V>, value: &V)
     requires table { IsAt gate.now.table_id chair.old }
     requires loaded { (t : ℕ) × (chair.old.me.0.stage ≡ Loaded t) }
     requires basis { V.basis value.now ≡ chair.old.me.0.basis }
-    requires entry { (n : ℕ) × (e : Entry) × (chair.old.me.0.role ≡ Caller n) × (V.entries value.now ≡ chair.old.me.0.seen ++ e ∷ []) × (caller e ≡ n) }
+    requires entry { (n : ℕ) × (e : Entry) × (chair.old.me.0.role ≡ Caller n)
+        × (V.entries value.now ≡ chair.old.me.0.seen ++ e ∷ []) × (caller e ≡ n) }
     ensures seat { IsSameSeat chair.old chair.new }
     ensures lawful { V.law (V.basis value.now) (V.entries value.now) }
-    ensures filed { (e : Entry) → V.entries value.now ≡ chair.old.me.0.seen ++ e ∷ [] → chair.new.me ≡ (filed e chair.old.me.0, chair.old.me.1) }
+    ensures filed { (e : Entry) → V.entries value.now ≡ chair.old.me.0.seen ++ e ∷ []
+        → chair.new.me ≡ (filed e chair.old.me.0, chair.old.me.1) }
 {
-    // Only the pass in its turn writes this word, so the exchange is made. It shows the value to the proof, which an addition could not.
+    // Only the pass in its turn writes this word, so the exchange is made. It shows the value to
+    // the proof, which an addition could not.
     let count = u64::from(value.filed());
     let said = Place::Shown(Snapshot::of(value));
     gate.compare_exchange_with::<File>(chair, FRONT, count - 1, count, &said);
@@ -61,7 +67,8 @@ pub fn announce<V: Historied>(gate: &Gate<V>, chair: &mut Chair<V>, value: &V)
 /// Gives the value back and calls the next in line.
 pub fn hand_back<V: Historied>(gate: &Gate<V>, chair: &mut Chair<V>, value: V)
     requires table { IsAt gate.now.table_id chair.old }
-    requires loaded { ((t : ℕ) × (chair.old.me.0.stage ≡ Loaded t)) × (chair.old.me.1 ≡ (0, Empty) ∷ []) }
+    requires loaded { ((t : ℕ) × (chair.old.me.0.stage ≡ Loaded t))
+        × (chair.old.me.1 ≡ (0, Empty) ∷ []) }
     requires pass { (n : ℕ) × (chair.old.me.0.role ≡ Caller n) }
     requires basis { V.basis value ≡ chair.old.me.0.basis }
     requires history { V.entries value ≡ chair.old.me.0.seen }

@@ -84,7 +84,12 @@ impl<V: Historied> Turnstile<V> {
         ensures seen { Begins first.old.seen first.new.seen }
         ensures met { Begins ended.seen first.new.seen }
         ensures sound { IsSound V.law first.new }
-        ensures ended { first.new ≡ record first.old { seen = first.new.seen; ended = first.old.ended ++ record { number = ended.number; calls = ended.mine } ∷ [] } }
+        ensures ended { first.new
+            ≡ record first.old {
+              seen = first.new.seen;
+              ended = first.old.ended
+                  ++ record { number = ended.number; calls = ended.mine } ∷ [];
+            } }
         ensures idle { IsIdleAt self.now first.new }
     {
         let Pass {
@@ -105,8 +110,10 @@ impl<V: Historied> Turnstile<V> {
         ensures seen { Begins first.seen (V.entries result) }
         ensures lawful { V.law (V.basis result) (V.entries result) }
         ensures mine { calls_by 0 (V.entries result) ≡ first.mine }
-        ensures ended { (k : ℕ) (e : Ended) → get_elem? first.ended k ≡ some e → calls_by e.number (V.entries result) ≡ e.calls }
-        ensures others { (n : ℕ) → n ≢ 0 → times n first.ended ≡ 0 → calls_by n (V.entries result) ≡ [] }
+        ensures ended { (k : ℕ) (e : Ended) → get_elem? first.ended k ≡ some e
+            → calls_by e.number (V.entries result) ≡ e.calls }
+        ensures others { (n : ℕ) → n ≢ 0 → times n first.ended ≡ 0
+            → calls_by n (V.entries result) ≡ [] }
     {
         let Pass {
             seat,

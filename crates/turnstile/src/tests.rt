@@ -61,7 +61,8 @@ fn file_word(
     requires number { word / 72057594037927936 ≡ pass.old.number }
     ensures idle { IsIdleAt gate.now pass.new }
     ensures same { IsSamePass pass.old pass.new }
-    ensures mine { OnOk result (pass.new.mine ≡ pass.old.mine ++ record { word = word; brought = [] } ∷ []) }
+    ensures mine { OnOk result
+        (pass.new.mine ≡ pass.old.mine ++ record { word = word; brought = [] } ∷ []) }
 {
     let mut turn = gate.take_turn(rt, pass);
     match turn.value().record(word) {

@@ -19,7 +19,8 @@ pub struct Turn<'a, V: Historied> {
 impl<V: Historied> Turnstile<V> {
     ghost use Rattle.turnstile.specs.Turns.{value_of, pass_of, borrow_of, gate_of, IsOpen};
 
-    /// Waits until the value is the pass's. What the pass has seen then is the value's whole history.
+    /// Waits until the value is the pass's. What the pass has seen then is the value's whole
+    /// history.
     pub fn take_turn<'a>(&'a self, rt: &impl Wait, pass: &'a mut Pass<V>) -> Turn<'a, V>
         requires idle { IsIdleAt self.now pass.old }
         ensures borrow { borrow_of result ≡ pass.entry.ghost_name }
@@ -28,7 +29,8 @@ impl<V: Historied> Turnstile<V> {
         ensures history { V.entries (value_of result) ≡ (pass_of result).seen }
         ensures seen { Begins pass.entry.now.seen (pass_of result).seen }
         ensures sound { IsSound V.law (pass_of result) }
-        ensures same { IsSamePass pass.entry.now (pass_of result) × ((pass_of result).mine ≡ pass.entry.now.mine) }
+        ensures same { IsSamePass pass.entry.now (pass_of result)
+            × ((pass_of result).mine ≡ pass.entry.now.mine) }
     {
         let value = claim(rt, &self.table.shared, &mut pass.seat);
         Turn {
@@ -47,7 +49,9 @@ impl<'a, V: Historied> Turn<'a, V> {
 
     /// The value, to read and to change.
     pub fn value(&mut self) -> &mut V
-        ensures* writes_back { sem 𝓛 (Lends (the_row (record { mir = named 0; lft = [] }) V.row V.Historied) V.row self.entry result (with_value self.old)) }
+        ensures* writes_back { sem 𝓛
+            (Lends (the_row (record { mir = named 0; lft = [] }) V.row V.Historied) V.row self.entry
+            result (with_value self.old)) }
         ensures value { result.now ≡ value_of self.old }
     {
         &mut self.value
@@ -57,11 +61,15 @@ impl<'a, V: Historied> Turn<'a, V> {
     pub fn file(&mut self)
         requires open { IsOpen self.old }
         requires basis { V.basis (value_of self.old) ≡ (pass_of self.old).basis }
-        requires entry { (e : Entry) × (V.entries (value_of self.old) ≡ (pass_of self.old).seen ++ e ∷ []) × (caller e ≡ (pass_of self.old).number) }
+        requires entry { (e : Entry)
+            × (V.entries (value_of self.old) ≡ (pass_of self.old).seen ++ e ∷ [])
+            × (caller e ≡ (pass_of self.old).number) }
         ensures open { IsOpen self.new × IsSameTurn self.old self.new }
         ensures value { value_of self.new ≡ value_of self.old }
         ensures seen { (pass_of self.new).seen ≡ V.entries (value_of self.old) }
-        ensures mine { (e : Entry) → V.entries (value_of self.old) ≡ (pass_of self.old).seen ++ e ∷ [] → (pass_of self.new).mine ≡ (pass_of self.old).mine ++ e ∷ [] }
+        ensures mine { (e : Entry)
+            → V.entries (value_of self.old) ≡ (pass_of self.old).seen ++ e ∷ []
+            → (pass_of self.new).mine ≡ (pass_of self.old).mine ++ e ∷ [] }
         ensures sound { IsSound V.law (pass_of self.new) }
         ensures same { IsSamePass (pass_of self.old) (pass_of self.new) }
     {
@@ -77,7 +85,8 @@ impl<'a, V: Historied> Turn<'a, V> {
         requires filed { V.entries (value_of self) ≡ (pass_of self).seen }
         ensures idle { IsIdleAt (gate_of self.entry) self.exit.1.0.now }
         ensures same { IsSamePass (pass_of self.entry) self.exit.1.0.now }
-        ensures seen { (self.exit.1.0.now.seen ≡ (pass_of self.entry).seen) × (self.exit.1.0.now.mine ≡ (pass_of self.entry).mine) }
+        ensures seen { (self.exit.1.0.now.seen ≡ (pass_of self.entry).seen)
+            × (self.exit.1.0.now.mine ≡ (pass_of self.entry).mine) }
         ensures sound { IsSound V.law self.exit.1.0.now }
     {
         let Turn { gate, pass, value } = self;

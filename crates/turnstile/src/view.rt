@@ -1,4 +1,5 @@
-//! What each seat at the table knows, and what the table's one slot has. Of the views no value is made: they exist in proofs alone.
+//! What each seat at the table knows, and what the table's one slot has. Of the views no value is
+//! made: they exist in proofs alone.
 use crate::history::{Basis, Entry};
 use std::collections::LinkedList;
 use std::snapshot::Snapshot;
