@@ -2,7 +2,7 @@
 use Rattle.std.specs.Prelude.{◌≢◌, ◌≤◌, ◌+◌, ◌==◌, ℕ, Bool, IsTrue, nat_lt, List, [], ◌∷◌, ◌++◌, length, All, Option, None, Some, unwrap_or, is_none, Result, Ok, Err, is_ok, ◌&&◌, if◌then◌else◌}
 use Rattle.std.specs.Option.{option_map}
 use Rattle.std.specs.Str.{bytes_eq}
-use Rattle.srv_edge.specs.declared.limit.TheConstants.{NAME_BYTES}
+pub use Rattle.srv_edge.specs.Name.{IsName}
 use Rattle.srv_edge.specs.Growth.{AnswersOrWants}
 use Rattle.names_table.specs.declared.fault.NameFault.{NameFault}
 use Rattle.names_table.specs.declared.fault.NameFault.TheVariants.{Full, OutOfMemory}
@@ -12,11 +12,6 @@ pub record Names : Type 0 where
   pub max_bytes : ℕ
   pub version : ℕ
   pub names : List (List ℕ)
-
--- a name has no NUL, and not too many bytes
-pub record IsName (name : List ℕ) : Type 0 where
-  pub longest : length name ≤ NAME_BYTES
-  pub no_nul : All (λ b. b ≢ 0) name
 
 -- The bytes that the names take: each has a NUL behind it, and the first of all is the NUL of the empty name.
 abbrev pub bytes_of : List (List ℕ) → ℕ

@@ -1,7 +1,8 @@
 -- Requests and replies as frames: the table of kinds.
 use Rattle.std.specs.Prelude.{◌≡◌, ◌≢◌, ◌≤◌, ◌<◌, ◌^◌, ◌⊎◌, ⊤, ℕ, List, [], length, drop, slice_index, All}
 use Rattle.srv_edge.specs.declared.kind.TheConstants as kinds
-use Rattle.srv_edge.specs.declared.limit.TheConstants.{NAME_BYTES, RECORD_BYTES}
+use Rattle.srv_edge.specs.declared.limit.TheConstants.{RECORD_BYTES}
+use Rattle.srv_edge.specs.Name.{IsName}
 use Rattle.srv_edge.specs.Frames.{Frame, half_bytes, word_bytes}
 use Rattle.request_frames.specs.declared.request.Request.{Request}
 use Rattle.request_frames.specs.declared.request.Request.TheVariants.{Hello, AddType, AddItem, AddName, GetType, GetItem, GetName, Counts, Bye}
@@ -42,12 +43,12 @@ request_frame (get_name offset) = record { kind = kinds.GET_NAME; body = word_by
 request_frame counts = record { kind = kinds.COUNTS; body = [] }
 request_frame bye = record { kind = kinds.BYE; body = [] }
 
--- what may be asked: a version of at least 1, a name of at most 65,535 bytes without NUL
+-- what may be asked: a version of at least 1, a name, numbers of 32 bits
 abbrev pub IsAsked : Asked → Type 0
 IsAsked (hello version) = (1 ≤ version) × (version < 2 ^ 16)
 IsAsked (add_type r) = ⊤
 IsAsked (add_item r) = ⊤
-IsAsked (add_name name) = (length name ≤ NAME_BYTES) × All (λ b. b ≢ 0) name
+IsAsked (add_name name) = IsName name
 IsAsked (get_type index) = index < 2 ^ 32
 IsAsked (get_item index) = index < 2 ^ 32
 IsAsked (get_name offset) = offset < 2 ^ 32

@@ -1,5 +1,6 @@
-ghost use Rattle.std.specs.Prelude.{◌≡◌, ◌≢◌, ◌≤◌, ◌<◌, ◌^◌, ℕ, [], length, slice_index, All, IfOk, OnErr, Err};
+ghost use Rattle.std.specs.Prelude.{◌≡◌, ◌≢◌, ◌≤◌, ◌<◌, ◌^◌, ℕ, [], length, slice_index, IfOk, OnOk, OnErr, Err};
 ghost use Rattle.srv_edge.specs.declared.kind.TheConstants as kinds;
+ghost use Rattle.srv_edge.specs.Name.{IsName};
 ghost use Rattle.srv_edge.specs.Frames.{half_bytes, word_bytes};
 ghost use Rattle.request_frames.specs.Requests.{IsAsked, IsBadBody, IsKind, add_name, asked, frame_of, request_frame};
 
@@ -51,11 +52,10 @@ fn read_hello<'a>(body: &[u8]) -> Result<Request<'a>, BadFrame>
 }
 
 fn read_name<'a>(body: &'a [u8]) -> Result<Request<'a>, BadFrame>
-    ensures name { IfOk result
-        (λ request. (asked request ≡ add_name body.now) × (length body.now ≤ NAME_BYTES)
-        × All (λ b. b ≢ 0) body.now) }
+    ensures name { IfOk result (λ request. asked request ≡ add_name body.now) }
+    ensures is_name { OnOk result (IsName body.now) }
     ensures err { OnErr result (result ≡ Err BadFrame.Body) }
-    ensures bad { OnErr result (length body.now ≤ NAME_BYTES → All (λ b. b ≢ 0) body.now → ⊥) }
+    ensures bad { OnErr result (¬ IsName body.now) }
 {
     if body.len() > NAME_BYTES as usize || body.contains(&0) {
         return Err(BadFrame::Body);

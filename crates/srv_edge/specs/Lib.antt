@@ -17,3 +17,4 @@ pub mod Recorded
 pub mod Images
 pub mod Standard
 pub mod Exchange
+pub mod Name
