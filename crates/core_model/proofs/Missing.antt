@@ -5,7 +5,7 @@ use Rattle.std.proofs.lemmas.Bool.{and_parts, ltb-true, ltb-false}
 use Rattle.std.proofs.lemmas.List.{get_or-drop}
 use Rattle.std.proofs.lemmas.Option.{same_Some}
 use Rattle.leaf_grammar.specs.declared.grammar.Space.{Space}
-use Rattle.leaf_grammar.specs.declared.grammar.Item.TheVariants as item
+use Rattle.leaf_grammar.specs.declared.grammar.Element.TheVariants as each
 use Rattle.leaf_grammar.specs.declared.grammar.Form.{Form}
 use Rattle.leaf_grammar.specs.declared.grammar.Form.TheVariants as form
 use Rattle.leaf_grammar.specs.declared.grammar.Part.{Part}
@@ -54,9 +54,9 @@ small_form (form.Index space) r at is = (small_field space r at is, tt)
 small_form (form.Number size) r at is = tt
 small_form form.Numeric r at is = tt
 small_form form.Text r at is = tt
-small_form (form.List width (item.Index space)) r at is = small_run space r (at + size_of width) (number_at width r at) is
-small_form (form.List width item.Byte) r at is = tt
-small_form (form.List width item.HalfByte) r at is = tt
+small_form (form.List width (each.Index space)) r at is = small_run space r (at + size_of width) (number_at width r at) is
+small_form (form.List width each.Byte) r at is = tt
+small_form (form.List width each.HalfByte) r at is = tt
 
 small_if : (b : Bool) (xs : List Field) → AreSmall xs → AreSmall (cond b xs [])
 small_if true xs p = p

@@ -6,7 +6,7 @@ use Rattle.std.proofs.lemmas.Bool.{false≢true}
 use Rattle.std.proofs.lemmas.List.Elements.{All-from_recursion}
 use Rattle.byteorder.specs.Endian.{little_number}
 use Rattle.leaf_grammar.specs.declared.grammar.Space.{Space}
-use Rattle.leaf_grammar.specs.declared.grammar.Item.TheVariants as item
+use Rattle.leaf_grammar.specs.declared.grammar.Element.TheVariants as each
 use Rattle.leaf_grammar.specs.declared.grammar.Form.{Form}
 use Rattle.leaf_grammar.specs.declared.grammar.Form.TheVariants as form
 use Rattle.leaf_grammar.specs.declared.grammar.Part.{Part}
@@ -52,9 +52,9 @@ form_holds P r e (form.Index space) at = (e space at, tt)
 form_holds P r e (form.Number size) at = tt
 form_holds P r e form.Numeric at = tt
 form_holds P r e form.Text at = tt
-form_holds P r e (form.List width (item.Index space)) at = run_holds P r e space (at + size_of width) (number_at width r at)
-form_holds P r e (form.List width item.Byte) at = tt
-form_holds P r e (form.List width item.HalfByte) at = tt
+form_holds P r e (form.List width (each.Index space)) at = run_holds P r e space (at + size_of width) (number_at width r at)
+form_holds P r e (form.List width each.Byte) at = tt
+form_holds P r e (form.List width each.HalfByte) at = tt
 
 part_holds : (P : Field → Type 0) (r : List ℕ) → Everywhere P r → (part : Part) (c : Cursor) → AllByRecursion P (found_at fields_in part r c)
 unfolding found_at

@@ -2,7 +2,7 @@
 use Rattle.std.proofs.Common.{◌≡◌, ◌≤◌, ◌<◌, ◌+◌, ◌*◌, ◌&&◌, ◌||◌, ℕ, zero, suc, Bool, true, false, cond, ltb, leb, le-ltb, List, [], ◌∷◌, ◌++◌, length, Option, Some, None, Ok, refl, ap, subst, sym, ◌∙◌, arith}
 use Rattle.std.proofs.lemmas.Bool.{lt-leb}
 use Rattle.leaf_grammar.specs.declared.grammar.Space.{Space}
-use Rattle.leaf_grammar.specs.declared.grammar.Item.TheVariants as item
+use Rattle.leaf_grammar.specs.declared.grammar.Element.TheVariants as each
 use Rattle.leaf_grammar.specs.declared.grammar.Form.{Form}
 use Rattle.leaf_grammar.specs.declared.grammar.Form.TheVariants as form
 use Rattle.leaf_grammar.specs.declared.grammar.Part.{Part}
@@ -41,13 +41,13 @@ lie_form (form.Index space) r at end e = (omega arith, omega (arith, bytes_on-is
 lie_form (form.Number size) r at end e = form_on (form.Number size) r at end e
 lie_form form.Numeric r at end e = form_on form.Numeric r at end e
 lie_form form.Text r at end e = form_on form.Text r at end e
-lie_form (form.List width (item.Index space)) r at end e =
+lie_form (form.List width (each.Index space)) r at end e =
     let n = number_at width r at in
     let b = bind_ok (bytes_on (size_of width) r at) (bytes_on (4 * n) r) end e in
     lie_from at (at + size_of width) end (run_from space r (at + size_of width) n) (omega arith)
     (lie_run space r (at + size_of width) n end (omega (arith, bytes_on-is (size_of width) r at b.0 b.1, bytes_on-is (4 * n) r b.0 end b.2)))
-lie_form (form.List width item.Byte) r at end e = form_on (form.List width item.Byte) r at end e
-lie_form (form.List width item.HalfByte) r at end e = form_on (form.List width item.HalfByte) r at end e
+lie_form (form.List width each.Byte) r at end e = form_on (form.List width each.Byte) r at end e
+lie_form (form.List width each.HalfByte) r at end e = form_on (form.List width each.HalfByte) r at end e
 
 lie_always : (f : Form) (r : List ℕ) (c d : Cursor) → behind_form c (form_end f r c.at) ≡ Ok d → LieBetween c.at d.at (fields_in f r c.at)
 lie_always f r c d e =

@@ -6,7 +6,7 @@ use Rattle.std.proofs.lemmas.List.Prefix.{at_from_reads, at_reads}
 use Rattle.leaf_grammar.specs.declared.grammar.Space.{Space}
 use Rattle.leaf_grammar.specs.declared.grammar.Width.{Width}
 use Rattle.leaf_grammar.specs.declared.grammar.Width.TheVariants.{TwoBytes}
-use Rattle.leaf_grammar.specs.declared.grammar.Item.TheVariants as item
+use Rattle.leaf_grammar.specs.declared.grammar.Element.TheVariants as each
 use Rattle.leaf_grammar.specs.declared.grammar.Form.{Form}
 use Rattle.leaf_grammar.specs.declared.grammar.Form.TheVariants as form
 use Rattle.leaf_grammar.specs.declared.grammar.Part.{Part}
@@ -103,9 +103,9 @@ form_too (form.Index space) r s at end h e a = (bytes_too 4 r s at a.same_length
 form_too (form.Number size) r s at end h e a = (plain_too (form.Number size) r s at end h e a, refl)
 form_too form.Numeric r s at end h e a = (plain_too form.Numeric r s at end h e a, refl)
 form_too form.Text r s at end h e a = (plain_too form.Text r s at end h e a, refl)
-form_too (form.List width (item.Index space)) r s at end h e a = list_too width space r s at end e (list_lies width space r at end e) a
-form_too (form.List width item.Byte) r s at end h e a = (plain_too (form.List width item.Byte) r s at end h e a, refl)
-form_too (form.List width item.HalfByte) r s at end h e a = (plain_too (form.List width item.HalfByte) r s at end h e a, refl)
+form_too (form.List width (each.Index space)) r s at end h e a = list_too width space r s at end e (list_lies width space r at end e) a
+form_too (form.List width each.Byte) r s at end h e a = (plain_too (form.List width each.Byte) r s at end h e a, refl)
+form_too (form.List width each.HalfByte) r s at end h e a = (plain_too (form.List width each.HalfByte) r s at end h e a, refl)
 
 always_too : (f : Form) (r s : List ℕ) (c d : Cursor) → c.at ≤ length r → behind_form c (form_end f r c.at) ≡ Ok d → Agree r s c.at d.at (fields_in f r c.at) →
     (behind_form c (form_end f s c.at) ≡ Ok d) × (places (fields_in f s c.at) ≡ places (fields_in f r c.at))

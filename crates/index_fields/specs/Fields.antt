@@ -3,7 +3,7 @@ use Rattle.std.specs.Prelude.{ℕ, zero, suc, ◌+◌, nat_lt, List, [], ◌∷�
 use Rattle.byteorder.specs.Endian.{little_number}
 use Rattle.leaf_grammar.specs.declared.grammar.Space.{Space}
 use Rattle.leaf_grammar.specs.declared.grammar.Space.TheVariants.{Types, Items}
-use Rattle.leaf_grammar.specs.declared.grammar.Item.TheVariants as item
+use Rattle.leaf_grammar.specs.declared.grammar.Element.TheVariants as each
 use Rattle.leaf_grammar.specs.declared.grammar.Form.{Form}
 use Rattle.leaf_grammar.specs.declared.grammar.Form.TheVariants as form
 use Rattle.leaf_grammar.specs.declared.grammar.Part.{Part}
@@ -33,9 +33,9 @@ fields_in (form.Index space) r at = field_at space r at ∷ []
 fields_in (form.Number size) r at = []
 fields_in form.Numeric r at = []
 fields_in form.Text r at = []
-fields_in (form.List width (item.Index space)) r at = run_from space r (at + size_of width) (number_at width r at)
-fields_in (form.List width item.Byte) r at = []
-fields_in (form.List width item.HalfByte) r at = []
+fields_in (form.List width (each.Index space)) r at = run_from space r (at + size_of width) (number_at width r at)
+fields_in (form.List width each.Byte) r at = []
+fields_in (form.List width each.HalfByte) r at = []
 
 -- the index fields of the parts that stand from a cursor on, from left to right
 abbrev pub parts_fields : List Part → List ℕ → Cursor → List Field

@@ -4,7 +4,7 @@ ghost use Rattle.leaf_grammar.specs.Visits.{Visits};
 ghost use Rattle.index_fields.specs.Fields.{fields_in, fields_of, run_from};
 
 use crate::visit::Visit;
-use leaf_grammar::{Form, Item, Space, VisitForms, Width, read, walk_forms, width_bytes};
+use leaf_grammar::{Element, Form, Space, VisitForms, Width, read, walk_forms, width_bytes};
 
 /// Shows each index field of a leaf to a visitor, from left to right.
 pub fn each_field<V: Visit>(space: Space, bytes: &[u8], visit: &mut V)
@@ -53,23 +53,23 @@ fn visit_form<V: Visit>(form: Form, bytes: &[u8], at: usize, visit: &mut V)
 {
     match form {
         Form::Index(space) => visit_run(space, bytes, at, 1, visit),
-        Form::List(width, item) => visit_list(width, item, bytes, at, visit),
+        Form::List(width, element) => visit_list(width, element, bytes, at, visit),
         Form::Number(_) | Form::Numeric | Form::Text => {}
     }
 }
 
 #[tactic(auto, unfolding(crate::specs::Fields::fields_in))]
-fn visit_list<V: Visit>(width: Width, item: Item, bytes: &[u8], at: usize, visit: &mut V)
-    requires whole { IsOk (form_end (Form.List width item) bytes.now at) }
+fn visit_list<V: Visit>(width: Width, element: Element, bytes: &[u8], at: usize, visit: &mut V)
+    requires whole { IsOk (form_end (Form.List width element) bytes.now at) }
     requires longest { length bytes.now ≤ 65536 }
-    ensures { Visits V.does (fields_in (Form.List width item) bytes.now at) visit.old visit.new }
+    ensures { Visits V.does (fields_in (Form.List width element) bytes.now at) visit.old visit.new }
 {
-    match item {
-        Item::Index(space) => {
+    match element {
+        Element::Index(space) => {
             let count = read(width, bytes, at);
             visit_run(space, bytes, at + width_bytes(width), count, visit);
         }
-        Item::Byte | Item::HalfByte => {}
+        Element::Byte | Element::HalfByte => {}
     }
 }
 

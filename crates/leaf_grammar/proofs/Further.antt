@@ -15,7 +15,7 @@ use Rattle.leaf_grammar.specs.declared.grammar.Rows.TheVariants.{Members, Method
 use Rattle.leaf_grammar.specs.declared.grammar.Cursor.{Cursor}
 use Rattle.leaf_grammar.specs.declared.grammar.Malformed.{Malformed}
 use Rattle.leaf_grammar.specs.Kinds.{method_parts, parts_of_member, u16, type_index, vtable_offset}
-use Rattle.leaf_grammar.specs.Leaf.{◌>>=◌, bytes_on, behind_numeric, behind_text, form_end, items_size, number_at, size_of, behind_form, cursor, past, says, parts_end, Row, row, member_row, pad_row, row_at, row_end, too_short, wrong_member}
+use Rattle.leaf_grammar.specs.Leaf.{◌>>=◌, bytes_on, behind_numeric, behind_text, form_end, elements_size, number_at, size_of, behind_form, cursor, past, says, parts_end, Row, row, member_row, pad_row, row_at, row_end, too_short, wrong_member}
 
 -- what came first, where something came behind it
 pub bind_ok : {A B : Type 0} (first : Result A Malformed) (f : A → Result B Malformed) (y : B) → (first >>= f) ≡ Ok y → (x : A) × (first ≡ Ok x) × (f x ≡ Ok y)
@@ -57,9 +57,9 @@ form_on (form.Index space) r at end h = omega (arith, bytes_on-is 4 r at end h)
 form_on (form.Number size) r at end h = omega (arith, bytes_on-is size r at end h)
 form_on form.Numeric r at end h = numeric_on r at end (behind_numeric_on r at end (numeric_end r at) h)
 form_on form.Text r at end h = text_on at end (text_size (drop at r)) h
-form_on (form.List width items) r at end h =
-    let b = bind_ok (bytes_on (size_of width) r at) (bytes_on (items_size items (number_at width r at)) r) end h in
-    omega (arith, bytes_on-is (size_of width) r at b.0 b.1, bytes_on-is (items_size items (number_at width r at)) r b.0 end b.2)
+form_on (form.List width element) r at end h =
+    let b = bind_ok (bytes_on (size_of width) r at) (bytes_on (elements_size element (number_at width r at)) r) end h in
+    omega (arith, bytes_on-is (size_of width) r at b.0 b.1, bytes_on-is (elements_size element (number_at width r at)) r b.0 end b.2)
 
 behind_form_on : (f : Form) (r : List ℕ) (c d : Cursor) → behind_form c (form_end f r c.at) ≡ Ok d → c.at ≤ d.at
 behind_form_on f r c d h =

@@ -10,7 +10,7 @@ use Rattle.leaf_words.specs.declared.NumericFault.TheVariants.{Short}
 use Rattle.leaf_words.specs.Words.{numeric_end, tail_end, tail_size, text_size}
 use Rattle.leaf_grammar.specs.declared.grammar.Width.{Width}
 use Rattle.leaf_grammar.specs.declared.grammar.Width.TheVariants.{TwoBytes}
-use Rattle.leaf_grammar.specs.declared.grammar.Item.{Item}
+use Rattle.leaf_grammar.specs.declared.grammar.Element.{Element}
 use Rattle.leaf_grammar.specs.declared.grammar.Form.{Form}
 use Rattle.leaf_grammar.specs.declared.grammar.Form.TheVariants as form
 use Rattle.leaf_grammar.specs.declared.grammar.Part.{Part}
@@ -19,7 +19,7 @@ use Rattle.leaf_grammar.specs.declared.grammar.Rows.{Rows}
 use Rattle.leaf_grammar.specs.declared.grammar.Rows.TheVariants.{Members, Methods}
 use Rattle.leaf_grammar.specs.declared.grammar.Malformed.{Malformed}
 use Rattle.leaf_grammar.specs.Kinds.{method_parts, parts_of_member}
-use Rattle.leaf_grammar.specs.Leaf.{◌>>=◌, bytes_on, behind_numeric, behind_text, behind_form, form_end, items_size, number_at, size_of, cursor, past, says, parts_end, Row, row, member_row, pad_row, row_at, row_end, rows_end, wrong_member}
+use Rattle.leaf_grammar.specs.Leaf.{◌>>=◌, bytes_on, behind_numeric, behind_text, behind_form, form_end, elements_size, number_at, size_of, cursor, past, says, parts_end, Row, row, member_row, pad_row, row_at, row_end, rows_end, wrong_member}
 use Rattle.leaf_grammar.specs.Spelled.{AreRows, SpellsNumeric, SpellsText, SpellsList, SpellsForm, SpellsPart, SpellsParts, SpellsMember, SpellsPad, SpellsRow, attributes_behind}
 use Rattle.leaf_grammar.proofs.Further.{row_further}
 use Rattle.leaf_grammar.proofs.Standing.{Stands, eqb_apart, else_case, then_case, stands_from, stands_front, stands_back, number_there, byte_there, bytes_whole}
@@ -69,16 +69,16 @@ text_whole r at x t s =
     let end : at + length t.text + 1 ≡ at + length x = omega arith in
     ap (λ z. behind_text at (option_map (λ n. at + n + 1) z)) size ∙ ap Ok end
 
-list_whole : (width : Width) (items : Item) (r : List ℕ) (at : ℕ) (x : List ℕ) → SpellsList width items x → Stands r at x →
-    (bytes_on (size_of width) r at >>= bytes_on (items_size items (number_at width r at)) r) ≡ Ok (at + length x)
-list_whole width items r at x l s =
+list_whole : (width : Width) (element : Element) (r : List ℕ) (at : ℕ) (x : List ℕ) → SpellsList width element x → Stands r at x →
+    (bytes_on (size_of width) r at >>= bytes_on (elements_size element (number_at width r at)) r) ≡ Ok (at + length x)
+list_whole width element r at x l s =
     let n = size_of width in
     let two = stands_as r at x (l.count ++ l.elements) l.whole s in
     let count = stands_front r at l.count l.elements two in
     let value : number_at width r at ≡ little_number n l.count = number_there n r at l.count (omega (arith, l.count_len)) count in
-    let long : length l.elements ≡ items_size items (number_at width r at) = l.elements_len ∙ ap (items_size items) (sym value) in
-    then_ok (bytes_on n r at) (at + length l.count) (bytes_on (items_size items (number_at width r at)) r) (bytes_whole n r at l.count l.count_len count)
-    ∙ bytes_whole (items_size items (number_at width r at)) r (at + length l.count) l.elements long (stands_back r at l.count l.elements two)
+    let long : length l.elements ≡ elements_size element (number_at width r at) = l.elements_len ∙ ap (elements_size element) (sym value) in
+    then_ok (bytes_on n r at) (at + length l.count) (bytes_on (elements_size element (number_at width r at)) r) (bytes_whole n r at l.count l.count_len count)
+    ∙ bytes_whole (elements_size element (number_at width r at)) r (at + length l.count) l.elements long (stands_back r at l.count l.elements two)
     ∙ ap Ok (further_on r at x l.count l.elements l.whole)
 
 pub form_whole : (f : Form) (r : List ℕ) (at : ℕ) (x : List ℕ) → SpellsForm f x → Stands r at x → form_end f r at ≡ Ok (at + length x)
@@ -87,7 +87,7 @@ form_whole (form.Index space) r at x p s = bytes_whole 4 r at x p s
 form_whole (form.Number size) r at x p s = bytes_whole size r at x p s
 form_whole form.Numeric r at x p s = ap (behind_numeric r at) (numeric_whole r at x p s)
 form_whole form.Text r at x p s = text_whole r at x p s
-form_whole (form.List width items) r at x p s = list_whole width items r at x p s
+form_whole (form.List width element) r at x p s = list_whole width element r at x p s
 
 always_whole : (f : Form) (r : List ℕ) (at attributes : ℕ) (x : List ℕ) → SpellsForm f x → Stands r at x → behind_form (cursor at attributes) (form_end f r at) ≡ Ok (cursor (at + length x) attributes)
 always_whole f r at attributes x p s = ap (behind_form (cursor at attributes)) (form_whole f r at x p s)

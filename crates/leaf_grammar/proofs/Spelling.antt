@@ -11,7 +11,7 @@ use Rattle.leaf_words.specs.declared.NumericFault.TheVariants.{Short}
 use Rattle.leaf_words.specs.Words.{numeric_end, tail_end, tail_size, text_size}
 use Rattle.leaf_grammar.specs.declared.grammar.Width.{Width}
 use Rattle.leaf_grammar.specs.declared.grammar.Width.TheVariants.{TwoBytes}
-use Rattle.leaf_grammar.specs.declared.grammar.Item.{Item}
+use Rattle.leaf_grammar.specs.declared.grammar.Element.{Element}
 use Rattle.leaf_grammar.specs.declared.grammar.Form.{Form}
 use Rattle.leaf_grammar.specs.declared.grammar.Form.TheVariants as form
 use Rattle.leaf_grammar.specs.declared.grammar.Part.{Part}
@@ -21,7 +21,7 @@ use Rattle.leaf_grammar.specs.declared.grammar.Rows.TheVariants.{Members, Method
 use Rattle.leaf_grammar.specs.declared.grammar.Cursor.{Cursor}
 use Rattle.leaf_grammar.specs.declared.grammar.Malformed.{Malformed}
 use Rattle.leaf_grammar.specs.Kinds.{method_parts, parts_of_member}
-use Rattle.leaf_grammar.specs.Leaf.{◌>>=◌, bytes_on, behind_text, behind_form, form_end, items_size, number_at, size_of, cursor, past, says, parts_end, Row, row, member_row, pad_row, row_at, row_end, rows_end, wrong_member}
+use Rattle.leaf_grammar.specs.Leaf.{◌>>=◌, bytes_on, behind_text, behind_form, form_end, elements_size, number_at, size_of, cursor, past, says, parts_end, Row, row, member_row, pad_row, row_at, row_end, rows_end, wrong_member}
 use Rattle.leaf_grammar.specs.Spelled.{AreRows, SpellsNumeric, SpellsText, SpellsList, SpellsForm, SpellsPart, SpellsParts, SpellsRow, attributes_behind}
 use Rattle.leaf_grammar.proofs.Further.{bind_ok, else_ok, else_is, behind_numeric_on, row_further}
 use Rattle.leaf_grammar.proofs.Standing.{Piece, stands_take, stands_from, joined, number_there, byte_there, bytes_piece}
@@ -86,17 +86,17 @@ text_piece r at end h (Some n) s e =
       is = cut.1;
     }
 
-list_piece : (width : Width) (items : Item) (r : List ℕ) (at end : ℕ) → (bytes_on (size_of width) r at >>= bytes_on (items_size items (number_at width r at)) r) ≡ Ok end → Piece r at end (SpellsList width items)
-list_piece width items r at end e =
+list_piece : (width : Width) (element : Element) (r : List ℕ) (at end : ℕ) → (bytes_on (size_of width) r at >>= bytes_on (elements_size element (number_at width r at)) r) ≡ Ok end → Piece r at end (SpellsList width element)
+list_piece width element r at end e =
     let n = size_of width in
-    let b = bind_ok (bytes_on n r at) (bytes_on (items_size items (number_at width r at)) r) end e in
+    let b = bind_ok (bytes_on n r at) (bytes_on (elements_size element (number_at width r at)) r) end e in
     let count = bytes_piece n r at b.0 b.1 in
     let same : number_at width r at ≡ little_number n count.bytes = number_there n r at count.bytes (omega (arith, count.is)) count.stands in
     let Counted : List ℕ → Type 0 = λ x. (length x ≡ n) × (number_at width r at ≡ little_number n x) in
-    joined r at b.0 end Counted (λ y. length y ≡ items_size items (number_at width r at)) (SpellsList width items)
+    joined r at b.0 end Counted (λ y. length y ≡ elements_size element (number_at width r at)) (SpellsList width element)
     (record { bytes = count.bytes; stands = count.stands; ends = count.ends; is = (count.is, same) })
-    (bytes_piece (items_size items (number_at width r at)) r b.0 end b.2)
-    (λ x y h t. record { count = x; elements = y; whole = refl; count_len = h.0; elements_len = t ∙ ap (items_size items) h.1 })
+    (bytes_piece (elements_size element (number_at width r at)) r b.0 end b.2)
+    (λ x y h t. record { count = x; elements = y; whole = refl; count_len = h.0; elements_len = t ∙ ap (elements_size element) h.1 })
 
 pub form_piece : (f : Form) (r : List ℕ) (at end : ℕ) → at ≤ length r → form_end f r at ≡ Ok end → Piece r at end (SpellsForm f)
 unfolding form_end
@@ -104,7 +104,7 @@ form_piece (form.Index space) r at end h e = bytes_piece 4 r at end e
 form_piece (form.Number size) r at end h e = bytes_piece size r at end e
 form_piece form.Numeric r at end h e = numeric_piece r at end (behind_numeric_on r at end (numeric_end r at) e)
 form_piece form.Text r at end h e = text_piece r at end h (text_size (drop at r)) refl e
-form_piece (form.List width items) r at end h e = list_piece width items r at end e
+form_piece (form.List width element) r at end h e = list_piece width element r at end e
 
 -- a part with the attributes behind it
 abbrev pub Leads : Part → ℕ → ℕ → List ℕ → Type 0

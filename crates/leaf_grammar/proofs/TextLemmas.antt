@@ -18,7 +18,7 @@ texts_in-is form.Text r at = refl
 texts_in-is (form.Index space) r at = refl
 texts_in-is (form.Number size) r at = refl
 texts_in-is form.Numeric r at = refl
-texts_in-is (form.List width items) r at = refl
+texts_in-is (form.List width element) r at = refl
 
 abbrev texts_among : List ℕ → List Placed → List (List ℕ)
 texts_among r forms = flat_map (in_placed texts_in r) forms

@@ -3,7 +3,7 @@ use Rattle.std.specs.Prelude.{ℕ, ◌==◌, List, [], ◌∷◌, Option, Some, 
 use Rattle.leaf_grammar.specs.declared.grammar.Space.{Space}
 use Rattle.leaf_grammar.specs.declared.grammar.Space.TheVariants.{Types, Items}
 use Rattle.leaf_grammar.specs.declared.grammar.Width.TheVariants.{TwoBytes, FourBytes}
-use Rattle.leaf_grammar.specs.declared.grammar.Item.TheVariants as item
+use Rattle.leaf_grammar.specs.declared.grammar.Element.TheVariants as each
 use Rattle.leaf_grammar.specs.declared.grammar.Form.TheVariants.{Index, Number, Numeric, Text, List as Counted}
 use Rattle.leaf_grammar.specs.declared.grammar.Condition.TheVariants.{ToMember, Introducing, UniquelyNamed}
 use Rattle.leaf_grammar.specs.declared.grammar.Part.{Part}
@@ -41,21 +41,21 @@ numeric = Always Numeric
 abbrev pub text : Part
 text = Always Text
 
--- a list behind the number of its items
+-- a list behind the number of its elements
 abbrev pub types32 : Part
-types32 = Always (Counted FourBytes (item.Index Types))
+types32 = Always (Counted FourBytes (each.Index Types))
 
 abbrev pub items16 : Part
-items16 = Always (Counted TwoBytes (item.Index Items))
+items16 = Always (Counted TwoBytes (each.Index Items))
 
 abbrev pub items32 : Part
-items32 = Always (Counted FourBytes (item.Index Items))
+items32 = Always (Counted FourBytes (each.Index Items))
 
 abbrev pub bytes32 : Part
-bytes32 = Always (Counted FourBytes item.Byte)
+bytes32 = Always (Counted FourBytes each.Byte)
 
 abbrev pub half_bytes16 : Part
-half_bytes16 = Always (Counted TwoBytes item.HalfByte)
+half_bytes16 = Always (Counted TwoBytes each.HalfByte)
 
 -- of a pointer to a member: its class, and how it is represented
 abbrev pub class_of_member : Part

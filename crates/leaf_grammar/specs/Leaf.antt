@@ -7,8 +7,8 @@ use Rattle.leaf_words.specs.Words.{numeric_end, end_of_text}
 use Rattle.leaf_grammar.specs.declared.grammar.Space.{Space}
 use Rattle.leaf_grammar.specs.declared.grammar.Width.{Width}
 use Rattle.leaf_grammar.specs.declared.grammar.Width.TheVariants.{TwoBytes, FourBytes}
-use Rattle.leaf_grammar.specs.declared.grammar.Item.{Item}
-use Rattle.leaf_grammar.specs.declared.grammar.Item.TheVariants as item
+use Rattle.leaf_grammar.specs.declared.grammar.Element.{Element}
+use Rattle.leaf_grammar.specs.declared.grammar.Element.TheVariants as each
 use Rattle.leaf_grammar.specs.declared.grammar.Form.{Form}
 use Rattle.leaf_grammar.specs.declared.grammar.Form.TheVariants as form
 use Rattle.leaf_grammar.specs.declared.grammar.Condition.{Condition}
@@ -72,11 +72,11 @@ abbrev pub behind_text : ℕ → Option ℕ → Result ℕ Malformed
 behind_text at None = Err (open_text at)
 behind_text at (Some end) = Ok end
 
--- how many bytes so many items have
-abbrev pub items_size : Item → ℕ → ℕ
-items_size (item.Index space) n = 4 * n
-items_size item.Byte n = n
-items_size item.HalfByte n = (n + 1) / 2
+-- how many bytes so many elements have
+abbrev pub elements_size : Element → ℕ → ℕ
+elements_size (each.Index space) n = 4 * n
+elements_size each.Byte n = n
+elements_size each.HalfByte n = (n + 1) / 2
 
 -- the place behind what stands at a place, or what is wrong there
 unfoldable pub form_end : Form → List ℕ → ℕ → Result ℕ Malformed
@@ -84,8 +84,8 @@ form_end (form.Index space) r at = bytes_on 4 r at
 form_end (form.Number size) r at = bytes_on size r at
 form_end form.Numeric r at = behind_numeric r at (numeric_end r at)
 form_end form.Text r at = behind_text at (end_of_text r at)
-form_end (form.List width items) r at =
-    bytes_on (size_of width) r at >>= bytes_on (items_size items (number_at width r at)) r
+form_end (form.List width element) r at =
+    bytes_on (size_of width) r at >>= bytes_on (elements_size element (number_at width r at)) r
 
 -- whether one of the bits of a mask is set, and the three bits from one on, as a number
 abbrev pub has_bits : ℕ → ℕ → Bool

@@ -4,7 +4,7 @@ use Rattle.byteorder.specs.Endian.{little_number}
 use Rattle.leaf_words.specs.Words.{tail_size}
 use Rattle.leaf_grammar.specs.declared.grammar.Space.{Space}
 use Rattle.leaf_grammar.specs.declared.grammar.Width.{Width}
-use Rattle.leaf_grammar.specs.declared.grammar.Item.{Item}
+use Rattle.leaf_grammar.specs.declared.grammar.Element.{Element}
 use Rattle.leaf_grammar.specs.declared.grammar.Form.{Form}
 use Rattle.leaf_grammar.specs.declared.grammar.Form.TheVariants as form
 use Rattle.leaf_grammar.specs.declared.grammar.Part.{Part}
@@ -13,7 +13,7 @@ use Rattle.leaf_grammar.specs.declared.grammar.Rows.{Rows}
 use Rattle.leaf_grammar.specs.declared.grammar.Rows.TheVariants.{Members, Methods}
 use Rattle.leaf_grammar.specs.declared.grammar.Leaf.{Leaf}
 use Rattle.leaf_grammar.specs.Kinds.{method_parts, parts_of, parts_of_member, rows_of}
-use Rattle.leaf_grammar.specs.Leaf.{items_size, says, size_of}
+use Rattle.leaf_grammar.specs.Leaf.{elements_size, says, size_of}
 
 -- a numeric leaf: two bytes, and as many more as they say
 pub record SpellsNumeric (bytes : List ℕ) : Type 0 where
@@ -30,19 +30,19 @@ pub record SpellsText (bytes : List ℕ) : Type 0 where
   pub no_nul : EachIndex text (λ k. slice_index text k ≢ 0)
 
 -- a list: a number, and the bytes of so many elements
-pub record SpellsList (width : Width) (items : Item) (bytes : List ℕ) : Type 0 where
+pub record SpellsList (width : Width) (element : Element) (bytes : List ℕ) : Type 0 where
   pub count : List ℕ
   pub elements : List ℕ
   pub whole : bytes ≡ count ++ elements
   pub count_len : length count ≡ size_of width
-  pub elements_len : length elements ≡ items_size items (little_number (size_of width) count)
+  pub elements_len : length elements ≡ elements_size element (little_number (size_of width) count)
 
 abbrev pub SpellsForm : Form → List ℕ → Type 0
 SpellsForm (form.Index space) bytes = length bytes ≡ 4
 SpellsForm (form.Number size) bytes = length bytes ≡ size
 SpellsForm form.Numeric bytes = SpellsNumeric bytes
 SpellsForm form.Text bytes = SpellsText bytes
-SpellsForm (form.List width items) bytes = SpellsList width items bytes
+SpellsForm (form.List width element) bytes = SpellsList width element bytes
 
 -- a part, behind such attributes. One that they do not ask for has no bytes.
 abbrev pub SpellsPart : Part → ℕ → List ℕ → Type 0

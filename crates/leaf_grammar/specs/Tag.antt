@@ -19,14 +19,14 @@ texts_in form.Text r at = text_from r at ∷ []
 texts_in (form.Index space) r at = []
 texts_in (form.Number size) r at = []
 texts_in form.Numeric r at = []
-texts_in (form.List width items) r at = []
+texts_in (form.List width element) r at = []
 
 abbrev pub is_text_form : Form → Bool
 is_text_form form.Text = true
 is_text_form (form.Index space) = false
 is_text_form (form.Number size) = false
 is_text_form form.Numeric = false
-is_text_form (form.List width items) = false
+is_text_form (form.List width element) = false
 
 -- the texts of a type, from left to right
 unfoldable pub texts_of : List ℕ → List (List ℕ)

@@ -14,7 +14,7 @@ pub enum Width {
 
 /// What a counted list holds.
 #[derive(Clone, Copy, Debug)]
-pub enum Item {
+pub enum Element {
     /// A u32 that names a record of a space.
     Index(Space),
     /// A byte.
@@ -35,7 +35,7 @@ pub enum Form {
     /// A text with its NUL.
     Text,
     /// The number of its elements, and the elements.
-    List(Width, Item),
+    List(Width, Element),
 }
 
 /// What attributes may say.

@@ -1,7 +1,7 @@
 ghost use Rattle.std.specs.Prelude.{◌≡◌, None, Some, MatchOption};
 ghost use Rattle.leaf_grammar.specs.Kinds.{method_parts, parts_of, parts_of_item, parts_of_member, parts_of_type, rows_of};
 
-use crate::grammar::{Condition, Form, Item, Part, Rows, Space, Width};
+use crate::grammar::{Condition, Element, Form, Part, Rows, Space, Width};
 
 // The forms of parts that stand always: indices, numbers of 8, 16 and 32 bits, attributes, ..
 const TYPE: Part = Part::Always(Form::Index(Space::Types));
@@ -22,15 +22,15 @@ const NUMERIC: Part = Part::Always(Form::Numeric);
 
 const TEXT: Part = Part::Always(Form::Text);
 
-const TYPES32: Part = Part::Always(Form::List(Width::FourBytes, Item::Index(Space::Types)));
+const TYPES32: Part = Part::Always(Form::List(Width::FourBytes, Element::Index(Space::Types)));
 
-const ITEMS16: Part = Part::Always(Form::List(Width::TwoBytes, Item::Index(Space::Items)));
+const ITEMS16: Part = Part::Always(Form::List(Width::TwoBytes, Element::Index(Space::Items)));
 
-const ITEMS32: Part = Part::Always(Form::List(Width::FourBytes, Item::Index(Space::Items)));
+const ITEMS32: Part = Part::Always(Form::List(Width::FourBytes, Element::Index(Space::Items)));
 
-const BYTES32: Part = Part::Always(Form::List(Width::FourBytes, Item::Byte));
+const BYTES32: Part = Part::Always(Form::List(Width::FourBytes, Element::Byte));
 
-const HALF_BYTES16: Part = Part::Always(Form::List(Width::TwoBytes, Item::HalfByte));
+const HALF_BYTES16: Part = Part::Always(Form::List(Width::TwoBytes, Element::HalfByte));
 
 // .. and those that the attributes before them decide.
 const CLASS_OF_MEMBER: Part = Part::Where(Condition::ToMember, Form::Index(Space::Types));

@@ -14,7 +14,7 @@ mod tests;
 mod visit;
 mod walk;
 
-pub use crate::grammar::{Form, Item, Leaf, Malformed, Space, Width};
+pub use crate::grammar::{Element, Form, Leaf, Malformed, Space, Width};
 pub use crate::judge::check;
 pub use crate::laws::leaves_are_spelled;
 pub use crate::parts::{read, width_bytes};

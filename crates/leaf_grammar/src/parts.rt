@@ -1,8 +1,8 @@
 ghost use Rattle.std.specs.Prelude.{◌≡◌, ◌≤◌, ◌<◌, ◌+◌, ◌^◌, length, IfOk};
 ghost use Rattle.leaf_words.specs.Words.{end_of_text, numeric_end};
-ghost use Rattle.leaf_grammar.specs.Leaf.{behind_form, behind_numeric, behind_text, bytes_on, form_end, items_size, number_at, past as cursor_past, says, size_of};
+ghost use Rattle.leaf_grammar.specs.Leaf.{behind_form, behind_numeric, behind_text, bytes_on, form_end, elements_size, number_at, past as cursor_past, says, size_of};
 
-use crate::grammar::{Condition, Cursor, Form, Item, Malformed, Part, Width};
+use crate::grammar::{Condition, Cursor, Element, Form, Malformed, Part, Width};
 use byteorder::{ByteOrder, LittleEndian};
 use leaf_words::{NumericFault, numeric, text_end};
 
@@ -70,10 +70,10 @@ fn behind(form: Form, bytes: &[u8], at: usize) -> Result<usize, Malformed>
         Form::Number(size) => skip(usize::from(size), bytes, at),
         Form::Numeric => past_numeric(bytes, at),
         Form::Text => past_text(bytes, at),
-        Form::List(width, item) => {
-            let items = skip(width_bytes(width), bytes, at)?;
+        Form::List(width, element) => {
+            let elements = skip(width_bytes(width), bytes, at)?;
             let count = read(width, bytes, at);
-            skip(item_bytes(item, count), bytes, items)
+            skip(element_bytes(element, count), bytes, elements)
         }
     }
 }
@@ -131,15 +131,15 @@ pub fn width_bytes(width: Width) -> usize
     }
 }
 
-// The bytes of so many items.
-fn item_bytes(item: Item, count: u32) -> usize
-    ensures { result ≡ items_size item count }
+// The bytes of so many elements.
+fn element_bytes(element: Element, count: u32) -> usize
+    ensures { result ≡ elements_size element count }
 {
     let count = count as usize;
-    match item {
-        Item::Index(_) => 4 * count,
-        Item::Byte => count,
-        Item::HalfByte => (count + 1) / 2,
+    match element {
+        Element::Index(_) => 4 * count,
+        Element::Byte => count,
+        Element::HalfByte => (count + 1) / 2,
     }
 }
 
