@@ -25,9 +25,9 @@ impl Visit for Listed<'_> {
     }
 }
 
-// Leaves and their index fields, written out by hand from the tables of the public format. First those
-// that the second test cites, then one of each kind and each member, in which all that stands beside an
-// index has a byte from A0 on.
+// Leaves and their index fields, written out by hand from the tables of the public format. First
+// those that the second test cites, then one of each kind and each member, in which all that stands
+// beside an index has a byte from A0 on.
 static LEAVES: [(Space, &[u8], &[(Space, u32, u32)]); 48] = [
     // a pointer to a member
     (

@@ -4,9 +4,9 @@ ghost use Rattle.leaf_grammar.specs.Spelled.{IsLeaf};
 
 use crate::grammar::{Leaf, Space};
 
-/// A law: what `check` accepts is a leaf in the format's own words, and the other way round, with the
-/// same kind and end. The words split the bytes: the length, the kind, spellings of the kind's parts
-/// in order, and at most three bytes of rest, in a field list and a method list none.
+/// A law: what `check` accepts is a leaf in the format's own words, and the other way round, with
+/// the same kind and end. The words split the bytes: the length, the kind, spellings of the kind's
+/// parts in order, and at most three bytes of rest, in a field list and a method list none.
 pub fn leaves_are_spelled()
     ensures spelled { (space : Space) (bytes : List ℕ) (leaf : Leaf) →
         leaf_of space bytes ≡ Ok leaf → IsLeaf space bytes leaf }

@@ -1,8 +1,8 @@
 use super::*;
 use std::test::Fail;
 
-// Records of every kind and member, written out by hand from the tables of the public format, and where
-// their content ends or what is wrong with them and where.
+// Records of every kind and member, written out by hand from the tables of the public format, and
+// where their content ends or what is wrong with them and where.
 static RECORDS: [(Space, &[u8], Result<usize, (u32, u8)>); 97] = [
     (Space::Types, b"\x06\x00\x0A\x00\x03\x00\x10\x01", Ok(8)),
     (
@@ -518,7 +518,8 @@ fn long_records(rt: HostRuntime) -> Result<(), Fail> {
     Ok(())
 }
 
-// What stands in a tag: whether it is a forward reference and within a function, its name, its unique name.
+// What stands in a tag: whether it is a forward reference and within a function, its name, its
+// unique name.
 type Stands = (bool, bool, &'static [u8], Option<&'static [u8]>);
 
 static TAGS: [(&[u8], Option<Stands>); 9] = [

@@ -6,7 +6,8 @@ use crate::grammar::Form;
 
 /// What is done with what stands in a record.
 pub trait VisitForms {
-    /// What a call does: the record, the visitor before it, what stands where, the visitor after it.
+    /// What a call does: the record, the visitor before it, what stands where, the visitor after
+    /// it.
     ghost does: { List ℕ → Self → Placed → Self → Type 0 };
 
     /// The names of the references that it holds. No call puts another in their place.

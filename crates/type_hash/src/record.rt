@@ -8,9 +8,9 @@ use crate::crc::buffer;
 use crate::strings::string_v1;
 use leaf_grammar::{Space, Tag, check, record_kind, tag_of};
 
-/// The hash of a record, which modulo the number of buckets is the bucket that it falls in. Which of
-/// its bytes are hashed is this project's own choice: a tag's name or its unique name, a line's type,
-/// or all bytes.
+/// The hash of a record, which modulo the number of buckets is the bucket that it falls in. Which
+/// of its bytes are hashed is this project's own choice: a tag's name or its unique name, a line's
+/// type, or all bytes.
 #[tactic(auto, unfolding(crate::specs::Record::record_hash))]
 pub fn of_record(bytes: &[u8]) -> u32
     ensures { result ≡ record_hash bytes.now }
