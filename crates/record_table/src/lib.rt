@@ -3,6 +3,7 @@
 
 mod fault;
 mod first;
+mod lookup;
 mod table;
 
 pub use crate::fault::AddFault;
