@@ -1,10 +1,11 @@
 -- One table of records: what an add and a get answer.
-use Rattle.std.specs.Prelude.{◌≡◌, ◌≤◌, ◌+◌, ◌-◌, ℕ, Bool, IsTrue, ◌&&◌, nat_lt, List, [], ◌∷◌, ◌++◌, length, Option, None, Some, is_none, unwrap_or, Result, Ok, Err, is_ok, if◌then◌else◌}
+use Rattle.std.specs.Prelude.{◌≡◌, ◌≤◌, ◌<◌, ◌+◌, ◌-◌, ℕ, Bool, IsTrue, ◌&&◌, nat_lt, List, [], ◌∷◌, ◌++◌, length, All, Option, None, Some, is_none, unwrap_or, Result, Ok, Err, is_ok, if◌then◌else◌}
 use Rattle.std.specs.List.{slice_get}
 use Rattle.std.specs.Option.{option_map}
 use Rattle.std.specs.Str.{bytes_eq}
 use Rattle.byteorder.specs.Endian.{little_number}
 use Rattle.record_table.specs.declared.first.TheConstants.{FIRST_INDEX}
+use Rattle.srv_edge.specs.declared.limit.TheConstants.{MOST_BYTES, MOST_RECORDS}
 use Rattle.srv_edge.specs.Growth.{AnswersOrWants}
 use Rattle.srv_edge.specs.Records.{joined}
 use Rattle.record_table.specs.declared.fault.AddFault.{AddFault}
@@ -38,6 +39,23 @@ index_of table r = option_map index_at (place_of table.records r)
 -- how many bytes the records have
 abbrev pub bytes_in : Table → ℕ
 bytes_in table = length (joined table.records)
+
+-- a table within its limits
+pub record WithinLimits (table : Table) : Type 0 where
+  pub few : length table.records ≤ table.max_records
+  pub short : bytes_in table ≤ table.max_bytes
+
+-- what a table keeps: all in it are records, it is within its limits, and these are no more than tables may have
+pub record IsKept (table : Table) : Type 0 where
+  pub all : All IsRecord table.records
+  pub within : WithinLimits table
+  pub most_records : table.max_records ≤ MOST_RECORDS
+  pub most_bytes : table.max_bytes ≤ MOST_BYTES
+
+-- an append of the record passes no limit
+pub record HasRoomFor (table : Table) (r : List ℕ) : Type 0 where
+  pub few : length table.records < table.max_records
+  pub short : bytes_in table + length r ≤ table.max_bytes
 
 -- the table with a record more
 abbrev pub appended : Table → List ℕ → Table

@@ -3,7 +3,10 @@
 
 mod fault;
 mod first;
+mod lookup;
 mod table;
+#[cfg(test)]
+mod tests;
 
 pub use crate::fault::AddFault;
 pub use crate::first::FIRST_INDEX;

@@ -1,34 +1,42 @@
-ghost use Rattle.std.specs.Prelude.{◌≡◌, ◌≤◌, ◌^◌, ◌↔◌, ◌⊎◌, [], Err, None, Some, length, IfOk, IfSome, IsTrue};
-ghost use Rattle.std.specs.Option.{option_copied, option_map};
-ghost use Rattle.record_table.specs.Table.{Adds, IsRecord, Table, bytes_in, index_at, index_of, place_of, record_at};
+ghost use Rattle.std.specs.Prelude.{◌≡◌, ◌≤◌, ◌<◌, ◌+◌, ◌^◌, ◌↔◌, ◌++◌, [], ◌∷◌, length, IfOk, IfSome, IsTrue, OnErr, OnOk};
+ghost use Rattle.std.specs.Option.{option_copied};
+ghost use Rattle.record_table.specs.Buckets.{hashes_of, in_bucket};
+ghost use Rattle.record_table.specs.Table.{Adds, HasRoomFor, IsKept, IsRecord, appended, bytes_in, index_of, record_at};
+ghost use Rattle.srv_edge.specs.Records.{joined};
+ghost use Rattle.type_hash.specs.Record.{record_hash};
 
 use crate::fault::AddFault;
 use crate::first::FIRST_INDEX;
-use srv_edge::{Limits, RecordList};
+use crate::lookup::{find_in, index_of_place};
+use chain_index::Chains;
+use srv_edge::{Limits, RecordList, Steps};
 use std::alloc::{AllocError, Global};
 use std::marker::Model;
+use std::sync::ledger::Ledger;
+use type_hash::of_record;
 
-/// The records of one space. It is searched from the front.
+/// The records of one space. Each is found by its hash.
 #[derive(Drop)]
 pub struct RecordTable {
     max_records: u32,
     max_bytes: u32,
     records: RecordList,
+    chains: Chains,
 }
 
 impl Model for RecordTable {
-    ghost use Rattle.std.specs.Prelude.{◌≤◌, ◌^◌, length, All};
-    ghost use Rattle.srv_edge.specs.Records.{joined};
-    ghost use Rattle.record_table.specs.Table.{IsRecord, Table};
+    ghost use Rattle.std.specs.Prelude.{◌≡◌};
+    ghost use Rattle.record_table.specs.Buckets.{hashes_of};
+    ghost use Rattle.record_table.specs.Table.{IsKept, Table};
 
     ghost Value = { Table };
 
     ghost view = { λ t. record
         { max_records = t.max_records; max_bytes = t.max_bytes; records = t.records } };
 
-    ghost invariant = { λ t. All IsRecord t.records × (length t.records ≤ t.max_records)
-        × (length (joined t.records) ≤ t.max_bytes) × (t.max_records ≤ 2 ^ 23)
-        × (t.max_bytes ≤ 2 ^ 30) };
+    ghost invariant = { λ t. IsKept
+        (record { max_records = t.max_records; max_bytes = t.max_bytes; records = t.records })
+        × (t.chains.hashes ≡ hashes_of t.records) };
 }
 
 impl RecordTable {
@@ -42,23 +50,32 @@ impl RecordTable {
             max_records: limits.records,
             max_bytes: limits.bytes,
             records: RecordList::new(alloc),
+            chains: Chains::new(alloc)?,
         })
     }
 
-    /// The least index of an equal record.
-    pub fn find(&self, bytes: &[u8]) -> Option<u32>
-        ensures { result ≡ index_of self.now bytes.now }
+    /// The least index of an equal record. A step is one comparison with a record of the table.
+    pub fn find<L: Ledger>(&self, bytes: &[u8], steps: &mut Steps<L>) -> Option<u32>
+        requires { steps.old < 2 ^ 62 }
+        ensures index { result ≡ index_of self.now bytes.now }
+        ensures cost { steps.new ≤ steps.old + in_bucket self.now.records bytes.now }
     {
-        find_in(&self.records, bytes)
+        let hash = of_record(bytes);
+        let place = find_in(&self.records, &self.chains, hash, bytes, steps);
+        index_of_place(place)
     }
 
     /// The least index of an equal record, or the record appended. Only a record that is new and
     /// passes no limit asks for memory.
-    pub fn add(&mut self, bytes: &[u8]) -> Result<u32, AddFault>
-        requires { IsRecord bytes.now }
-        ensures { Adds self.old bytes.now result self.new }
+    pub fn add<L: Ledger>(&mut self, bytes: &[u8], steps: &mut Steps<L>) -> Result<u32, AddFault>
+        requires record { IsRecord bytes.now }
+        requires steps { steps.old < 2 ^ 62 }
+        ensures added { Adds self.old bytes.now result self.new }
+        ensures cost { steps.new ≤ steps.old + in_bucket self.old.records bytes.now }
     {
-        if let Some(index) = self.find(bytes) {
+        let hash = of_record(bytes);
+        let place = find_in(&self.records, &self.chains, hash, bytes, steps);
+        if let Some(index) = index_of_place(place) {
             return Ok(index);
         }
         if self.records.len() >= self.max_records {
@@ -69,10 +86,21 @@ impl RecordTable {
             return Err(AddFault::Bytes { needed });
         }
         let index = FIRST_INDEX + self.records.len();
-        match self.records.push(bytes) {
+        match keep(&mut self.records, &mut self.chains, bytes, hash) {
             Ok(()) => Ok(index),
             Err(_) => Err(AddFault::OutOfMemory),
         }
+    }
+
+    /// Appends a record, also where an equal one is there.
+    pub fn append(&mut self, bytes: &[u8]) -> Result<(), AllocError>
+        requires record { IsRecord bytes.now }
+        requires room { HasRoomFor self.old bytes.now }
+        ensures ok { OnOk result (self.new ≡ appended self.old bytes.now) }
+        ensures err { OnErr result (self.new ≡ self.old) }
+    {
+        let hash = of_record(bytes);
+        keep(&mut self.records, &mut self.chains, bytes, hash)
     }
 
     /// The record at an index. It is one that a reply can carry.
@@ -84,6 +112,14 @@ impl RecordTable {
             return None;
         }
         self.records.get(index - FIRST_INDEX)
+    }
+
+    /// The records, in their order.
+    pub fn records(&self) -> &RecordList
+        ensures records { result.now ≡ self.now.records }
+        ensures kept { IsKept self.now }
+    {
+        &self.records
     }
 
     /// How many records there are.
@@ -115,17 +151,24 @@ impl RecordTable {
     }
 }
 
-// The least index of an equal record.
-fn find_in(records: &RecordList, bytes: &[u8]) -> Option<u32>
-    requires { length records.now ≤ 2 ^ 23 }
-    ensures { result ≡ option_map index_at (place_of records.now bytes.now) }
+// The record behind the others, and in its chain. All that grows does so before anything is
+// changed.
+fn keep(
+    records: &mut RecordList,
+    chains: &mut Chains,
+    bytes: &[u8],
+    hash: u32,
+) -> Result<(), AllocError>
+    requires hashes { chains.old.hashes ≡ hashes_of records.old }
+    requires hash { hash ≡ record_hash bytes.now }
+    requires count { length records.old + 1 < 2 ^ 32 }
+    requires room { length (joined records.old) + length bytes.now < 2 ^ 32 }
+    ensures ok { OnOk result (records.new ≡ records.old ++ bytes.now ∷ []) }
+    ensures err { OnErr result (records.new ≡ records.old) }
+    ensures hashes { chains.new.hashes ≡ hashes_of records.new }
 {
-    for place in 0..records.len() {
-        if let Some(record) = records.get(place)
-            && record == bytes
-        {
-            return Some(FIRST_INDEX + place);
-        }
-    }
-    None
+    chains.reserve(1)?;
+    records.push(bytes)?;
+    chains.link(hash);
+    Ok(())
 }

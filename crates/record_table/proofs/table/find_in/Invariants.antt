@@ -1,6 +1,0 @@
-use Rattle.std.proofs.Common.{◌≡◌, None, take}
-use Rattle.record_table.specs.Table.{place_of}
-use Rattle.record_table.proofs.table.find_in.Given as goal
-
-abbrev pub invariant-loop-place : goal.invariant-loop-place
-invariant-loop-place l = place_of (take l.place l.records) l.bytes ≡ None
