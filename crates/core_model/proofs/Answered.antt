@@ -16,7 +16,8 @@ use Rattle.names_table.specs.Names as strings
 use Rattle.turnstile.specs.declared.history.Basis.{Basis}
 use Rattle.call_journal.specs.declared.deed.TableKind.{TableKind}
 use Rattle.call_journal.specs.declared.deed.TableKind.TheVariants.{Types, Items, Names}
-use Rattle.table_model.specs.Tables.{Tables, WithinLimits, answer_of_add, answer_of_name, answer_to_bytes, answer_to_leaf, answer_to_name, answer_to_record, item_count, table_after, type_count}
+use Rattle.record_table.specs.Table.{WithinLimits}
+use Rattle.table_model.specs.Tables.{Tables, answer_of_add, answer_of_name, answer_to_bytes, answer_to_leaf, answer_to_name, answer_to_record, item_count, table_after, type_count}
 use Rattle.core_model.specs.History.{IsAnswered, IsStart, most_name_bytes, names_version, opened_tables, limited_table, with_added}
 use Rattle.table_model.proofs.Records as record_lemmas
 use Rattle.table_model.proofs.Strings as string_lemmas

@@ -32,7 +32,8 @@ use Rattle.call_journal.specs.Words.{IsDeed}
 use Rattle.table_model.specs.declared.call.Call.{Call}
 use Rattle.table_model.specs.declared.call.Call.TheVariants.{AddType, AddItem, AddName, GetType, GetItem, GetName, Counts}
 use Rattle.table_model.specs.declared.call.Outcome.{Outcome}
-use Rattle.table_model.specs.Tables.{Tables, WithinLimits, answer_of_add, answer_of_name, answer_to_bytes, answer_to_leaf, answer_to_name, answer_to_record, item_count, space_number, type_count}
+use Rattle.record_table.specs.Table.{WithinLimits}
+use Rattle.table_model.specs.Tables.{Tables, answer_of_add, answer_of_name, answer_to_bytes, answer_to_leaf, answer_to_name, answer_to_record, item_count, space_number, type_count}
 use Rattle.table_model.specs.Calls.{answer, are_bytes, has_no_nul, index_answer, is_call}
 use Rattle.core_model.specs.History.{DeedFits, IsAnswered, IsRefusedFull, IsStart, NamesNothing, PassesLimit, Standing, after_deed}
 use Rattle.core_model.specs.Entries.{entry_of, entry_of_add, entry_of_call, entry_of_read, table_of_space}

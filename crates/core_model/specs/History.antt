@@ -15,7 +15,8 @@ use Rattle.call_journal.specs.declared.deed.Deed.TheVariants.{Added, Asked, Coun
 use Rattle.call_journal.specs.Words.{deed_of}
 pub use Rattle.core_model.specs.declared.commit.OpenCommit.{OpenCommit}
 use Rattle.table_model.specs.Calls.{are_bytes}
-use Rattle.table_model.specs.Tables.{Tables, WithinLimits, answer_to_record, answer_to_name, item_count, type_count}
+use Rattle.record_table.specs.Table.{WithinLimits}
+use Rattle.table_model.specs.Tables.{Tables, answer_to_record, answer_to_name, item_count, type_count}
 
 -- The numbers of a basis: the number of the commit that was opened, the five limits and the version of
 -- the names. What else an opened file has stands behind them.

@@ -7,8 +7,7 @@ use Rattle.std.proofs.lemmas.Bool.{cond-true, cond-false, eq-eqb, le-ltb, ne_eqb
 use Rattle.std.proofs.lemmas.List.{append-nil}
 use Rattle.srv_edge.specs.Records.{joined}
 use Rattle.record_table.specs.declared.fault.AddFault.TheVariants.{Records, Bytes}
-use Rattle.record_table.specs.Table.{Table, after_add, answer_to_add, answer_to_new, appended, bytes_in, index_at, index_of, place_of, record_at}
-use Rattle.table_model.specs.Tables.{WithinLimits}
+use Rattle.record_table.specs.Table.{Table, WithinLimits, after_add, answer_to_add, answer_to_new, appended, bytes_in, index_at, index_of, place_of, record_at}
 use Rattle.table_model.proofs.Counting.{place_of-within}
 use Rattle.table_model.proofs.Searching.{found_behind, found_there, place_on}
 

@@ -12,7 +12,8 @@ use Rattle.table_model.specs.declared.call.Outcome.{Outcome}
 use Rattle.leaf_grammar.specs.declared.grammar.Space.{Space}
 use Rattle.leaf_grammar.specs.declared.grammar.Space.TheVariants.{Types, Items}
 use Rattle.table_model.specs.Calls.{answer, bytes_answer, index_answer, tables_after}
-use Rattle.table_model.specs.Tables.{Tables, WithinLimits, answer_of_add, answer_to_name, answer_to_record, item_count, names_within, record_grows, table_after, table_within, type_count}
+use Rattle.record_table.specs.Table.{WithinLimits}
+use Rattle.table_model.specs.Tables.{Tables, answer_of_add, answer_to_name, answer_to_record, item_count, names_within, record_grows, table_after, table_within, type_count}
 
 -- the names that a call brings are names
 abbrev pub BringsName : Call → Type 0

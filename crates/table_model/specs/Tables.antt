@@ -1,5 +1,5 @@
 -- The one-thread table: what an add answers, and the tables that it leaves.
-use Rattle.std.specs.Prelude.{IsTrue, ◌≤◌, ℕ, Bool, ◌&&◌, List, [], length, Option, Some, None, is_none, Result, Ok, Err, is_ok, if◌then◌else◌}
+use Rattle.std.specs.Prelude.{IsTrue, ℕ, Bool, ◌&&◌, List, [], length, Option, Some, None, is_none, Result, Ok, Err, is_ok, if◌then◌else◌}
 use Rattle.leaf_grammar.specs.declared.grammar.Space.{Space}
 use Rattle.leaf_grammar.specs.declared.grammar.Space.TheVariants.{Types, Items}
 use Rattle.leaf_grammar.specs.declared.grammar.Leaf.{Leaf}
@@ -24,11 +24,6 @@ pub record Tables : Type 0 where
   pub types : records.Table
   pub items : records.Table
   pub names : strings.Names
-
--- a table within its limits
-pub record WithinLimits (table : records.Table) : Type 0 where
-  pub few : length table.records ≤ table.max_records
-  pub short : records.bytes_in table ≤ table.max_bytes
 
 -- a table of these records within limits
 abbrev pub table_within : Limits → List (List ℕ) → records.Table

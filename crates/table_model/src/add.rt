@@ -1,4 +1,5 @@
-ghost use Rattle.std.specs.Prelude.{◌≡◌, ◌≤◌};
+ghost use Rattle.std.specs.Prelude.{◌≡◌, ◌≤◌, ◌<◌};
+ghost use Rattle.record_table.specs.Table.{Adds, IsRecord};
 ghost use Rattle.names_table.specs.Names.{IsName};
 ghost use Rattle.srv_edge.specs.declared.limit.TheConstants.{MOST_RECORDS};
 ghost use Rattle.table_model.specs.Tables.{AddsName, AddsRecord, space_number};
@@ -7,7 +8,9 @@ use index_fields::first_missing;
 use leaf_grammar::{Space, check};
 use names_table::{NameFault, NamesTable};
 use record_table::{AddFault, RecordTable};
-use srv_edge::{Refusal, limit, space};
+use srv_edge::{Refusal, Steps, limit, space};
+use std::marker::Brand;
+use std::sync::ledger::{Blank, Ledger};
 
 /// Judges a record of a space and its fields, where there are so many types and items, and adds it
 /// to the table of its space. A refused record leaves the table.
@@ -34,7 +37,7 @@ pub fn add_record(
             index,
         });
     }
-    match table.add(bytes) {
+    match add_leaf::<Brand>(table, bytes, Blank::new(1)) {
         Ok(index) => Ok(index),
         Err(AddFault::Records) => Err(Refusal::Full {
             which: limit::RECORDS,
@@ -46,6 +49,18 @@ pub fn add_record(
         }),
         Err(AddFault::OutOfMemory) => Err(Refusal::OutOfMemory),
     }
+}
+
+// Adds a leaf. Its steps are of this call alone.
+fn add_leaf<L: Ledger>(table: &mut RecordTable, bytes: &[u8], blank: Blank) -> Result<u32, AddFault>
+    requires record { IsRecord bytes.now }
+    requires name { blank.name ≡ L.name }
+    requires parts { blank.parts ≡ L.parts }
+    requires some { 0 < L.parts }
+    ensures { Adds table.old bytes.now result table.new }
+{
+    let mut steps = Steps::<L>::open(blank);
+    table.add(bytes, &mut steps)
 }
 
 /// Adds a name. A refused name leaves the table.

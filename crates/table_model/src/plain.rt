@@ -2,9 +2,9 @@ ghost use Rattle.std.specs.Prelude.{◌≡◌, ◌≢◌, ◌≤◌, ◌<◌, �
 ghost use Rattle.std.specs.Option.{option_copied};
 ghost use Rattle.srv_edge.specs.declared.limit.TheConstants.{MOST_RECORDS, RECORD_BYTES};
 ghost use Rattle.srv_edge.specs.declared.space.TheConstants as spaces;
-ghost use Rattle.record_table.specs.Table.{record_in};
+ghost use Rattle.record_table.specs.Table.{WithinLimits, record_in};
 ghost use Rattle.names_table.specs.Names.{IsName, bytes_of, name_in};
-ghost use Rattle.table_model.specs.Tables.{WithinLimits, empty_tables, table_within};
+ghost use Rattle.table_model.specs.Tables.{empty_tables, table_within};
 ghost use Rattle.table_model.specs.Plain.{AddsLeaf, AddsToList, AddsToNames, AnswersCall, BringsName, Copies};
 
 use crate::add::number_of;

@@ -1,6 +1,5 @@
 use Rattle.std.proofs.Common.{◌++◌, [], length, refl, ap, ◌∙◌, inl}
 use Rattle.srv_edge.specs.Frames.{frame_bytes, half_bytes, word_bytes}
-use Rattle.request_frames.specs.Requests.{asked}
 use Rattle.client_session.specs.Tables.{Tables}
 use Rattle.client_session.proofs.NoFault.{puts}
 use Rattle.client_session.proofs.bare.BareDesk.answer.Goals as goal

@@ -1,6 +1,5 @@
-use Rattle.std.proofs.Common.{◌≡◌, ℕ, List, subst, arith}
+use Rattle.std.proofs.Common.{◌≡◌, ℕ, subst, arith}
 use Rattle.srv_edge.specs.Count.{RoseBy}
-use Rattle.request_frames.specs.Session.{IsSession}
 use Rattle.request_frames.specs.Talk.{IsTalk}
 use Rattle.client_session.specs.Tables.{Answers}
 use Rattle.mspdbsrv.proofs.commands.session.serve_both.Goals as goal
