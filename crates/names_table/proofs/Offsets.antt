@@ -1,5 +1,5 @@
 -- Names and their offsets.
-use Rattle.std.proofs.Common.{◌≡◌, ◌≢◌, ◌≤◌, ◌+◌, ◌==◌, if◌then◌else◌, ℕ, true, false, Bool, true≢false, cond, eqb, List, [], ◌∷◌, ◌++◌, length, Option, Some, None, All, IfSome, refl, sym, ap, subst, ⊎_elim, ◌⊎◌, inl, inr, ◌∙◌, arith}
+use Rattle.std.proofs.Common.{◌≡◌, ◌≢◌, ◌≤◌, ◌+◌, ◌==◌, if◌then◌else◌, ℕ, true, false, Bool, true≢false, cond, eqb, List, [], ◌∷◌, ◌++◌, length, Option, Some, None, is_some, Result, Ok, Err, OnOk, OnErr, All, IfSome, refl, sym, ap, subst, ⊎_elim, ◌⊎◌, inl, inr, ◌∙◌, arith}
 use Rattle.std.specs.List.{AllByRecursion}
 use Rattle.std.specs.Borrow.{Bor}
 use Rattle.std.specs.Global.{Vec}
@@ -95,21 +95,21 @@ found_equal start (x ∷ names) name text same =
     let rest = found_equal (start + length x + 1) names name text same in
     (λ j. cond (alike x name text same j) (Some start) (rest j))
 
-or_same : (o p : Option ℕ) (k : ℕ) → o ≡ Some k → option_or o p ≡ o
-or_same None p k some = absurd cc
-or_same (Some n) p k some = refl
+or_same : (o p : Option ℕ) → is_some o ≡ true → option_or o p ≡ o
+or_same None p some = absurd (true≢false (sym some))
+or_same (Some n) p some = refl
 
 -- a name more that is found before, or is empty, changes no search
-pub finds_still : (table : Names) (entries : List (Vec ℕ × ℕ)) (name : List ℕ) (offset : ℕ) → offset_of table name ≡ Some offset → FindsFirst table.names entries → FindsFirst (table.names ++ name ∷ []) entries
-finds_still table entries name offset there finds [] = finds []
-finds_still table entries [] offset there finds (b ∷ text) =
+pub finds_still : (table : Names) (entries : List (Vec ℕ × ℕ)) (name : List ℕ) → is_some (offset_of table name) ≡ true → FindsFirst table.names entries → FindsFirst (table.names ++ name ∷ []) entries
+finds_still table entries name there finds [] = finds []
+finds_still table entries [] there finds (b ∷ text) =
     finds (b ∷ text) ∙ sym (or_none (offset_from 1 table.names (b ∷ text)))
     ∙ sym (offset_from-push 1 table.names [] (b ∷ text) (bytes_of table.names) (omega arith))
-finds_still table entries (a ∷ name) offset there finds (b ∷ text) =
+finds_still table entries (a ∷ name) there finds (b ∷ text) =
     let next = bytes_of table.names in
     let old = offset_from 1 table.names (b ∷ text) in
     let unchanged : old ≡ option_or old (if bytes_eq (a ∷ name) (b ∷ text) then Some next else None) =
-    ⊎_elim (λ t. sym (or_same old (if bytes_eq (a ∷ name) (b ∷ text) then Some next else None) offset (sym (found_equal 1 table.names (a ∷ name) (b ∷ text) t) ∙ there)))
+    ⊎_elim (λ t. sym (or_same old (if bytes_eq (a ∷ name) (b ∷ text) then Some next else None) (ap is_some (sym (found_equal 1 table.names (a ∷ name) (b ∷ text) t)) ∙ there)))
     (λ f. sym (ap (λ e. option_or old (cond e (Some next) None)) f ∙ or_none old)) (either (bytes_eq (a ∷ name) (b ∷ text))) in
     finds (b ∷ text) ∙ unchanged ∙ sym (offset_from-push 1 table.names (a ∷ name) (b ∷ text) next (omega arith))
 
@@ -126,3 +126,8 @@ first-none table (b ∷ name) none = (none, λ e. omega (arith, e))
 pub nil_from : (names : List (List ℕ)) → length names ≡ 0 → names ≡ []
 nil_from [] e = refl
 nil_from (x ∷ names) e = absurd (omega (arith, e))
+
+-- what holds after a call that may want memory
+pub either_way : {A E : Type 0} (P : List (List ℕ) → Type 0) (r : Result A E) (new more old : List (List ℕ)) → OnOk r (new ≡ more) → OnErr r (new ≡ old) → P more → P old → P new
+either_way P (Ok a) new more old ok err grown same = subst P (sym ok) grown
+either_way P (Err e) new more old ok err grown same = subst P (sym err) same

@@ -76,6 +76,21 @@ impl NamesTable {
         }
     }
 
+    /// Appends a name of an opened file at its place, whatever names there are. Equal and empty
+    /// ones are kept, and an add finds the first of them.
+    pub fn append(&mut self, name: &[u8]) -> Result<(), AllocError>
+        requires name { IsName name.now }
+        requires room { HasRoomFor self.old name.now }
+        ensures ok { OnOk result
+            (self.new ≡ record self.old { names = self.old.names ++ name.now ∷ [] }) }
+        ensures err { OnErr result (self.new ≡ self.old) }
+    {
+        if self.find(name).is_some() {
+            return self.list.push(name);
+        }
+        self.append_new(name)
+    }
+
     // Appends a name that is not there. All memory is taken before anything changes.
     fn append_new(&mut self, name: &[u8]) -> Result<(), AllocError>
         requires name { IsName name.now }
