@@ -1,73 +1,15 @@
 -- Names and their offsets.
-use Rattle.std.proofs.Common.{◌≡◌, ◌≢◌, ◌≤◌, ◌+◌, ◌==◌, if◌then◌else◌, ℕ, true, false, true≢false, cond, eqb, eq-eqb, zero, suc, List, [], ◌∷◌, ◌++◌, length, drop, Option, Some, None, All, IfSome, refl, sym, ap, subst, ⊎_elim, ◌∙◌, arith}
-use Rattle.std.specs.List.{slice_get, AllByRecursion}
-use Rattle.std.specs.Str.{bytes_eq}
-use Rattle.std.proofs.lemmas.Bool.Decides.{eqb_tells}
+use Rattle.std.proofs.Common.{◌≡◌, ◌≢◌, ◌≤◌, ◌+◌, ◌==◌, if◌then◌else◌, ℕ, true, false, Bool, true≢false, cond, eqb, List, [], ◌∷◌, ◌++◌, length, Option, Some, None, is_some, Result, Ok, Err, OnOk, OnErr, All, IfSome, refl, sym, ap, subst, ⊎_elim, ◌⊎◌, inl, inr, ◌∙◌, arith}
+use Rattle.std.specs.List.{AllByRecursion}
 use Rattle.std.specs.Borrow.{Bor}
-use Rattle.std.specs.Option.{option_copied}
-use Rattle.std.proofs.lemmas.List.Elements.{recursion_from_All}
 use Rattle.std.specs.Global.{Vec}
 use Rattle.std.specs.Map.{lookup}
+use Rattle.std.specs.Option.{option_copied, option_or}
+use Rattle.std.specs.Str.{bytes_eq}
 use Rattle.std.proofs.lemmas.Cmp.{nat_list_eq_equiv}
-use Rattle.names_table.specs.Entries.{InPlace, names_of}
+use Rattle.std.proofs.lemmas.List.Elements.{recursion_from_All}
+use Rattle.names_table.specs.Entries.{FindsFirst, first_of}
 use Rattle.names_table.specs.Names.{IsName, Names, bytes_of, name_from, offset_from, offset_of}
-
--- an entry and those behind it
-pub drop-at : {A : Type 0} (xs : List A) (i : ℕ) (x : A) → slice_get xs i ≡ Some x → drop i xs ≡ x ∷ drop (i + 1) xs
-drop-at [] i x at = absurd cc
-drop-at (y ∷ xs) zero x at = let e : y ≡ x = cc in ap (λ z. z ∷ xs) e
-drop-at (y ∷ xs) (suc i) x at =
-    let next : i + 1 ≡ suc i = omega arith in
-    let after : suc i + 1 ≡ suc (i + 1) = omega arith in
-    drop-at xs i x at ∙ ap (λ k. x ∷ drop k (y ∷ xs)) (sym after)
-
--- behind the last there is none
-pub drop-past : {A : Type 0} (xs : List A) (i : ℕ) → slice_get xs i ≡ None → drop i xs ≡ []
-drop-past [] zero past = refl
-drop-past [] (suc i) past = refl
-drop-past (y ∷ xs) zero past = absurd cc
-drop-past (y ∷ xs) (suc i) past = drop-past xs i past
-
--- a look-up finds where the first equal name begins
-pub lookup-offset : (start : ℕ) (entries : List (Vec ℕ × ℕ)) (name : List ℕ) → InPlace start entries → lookup (λ k. bytes_eq name k.items) entries ≡ offset_from start (names_of entries) name
-lookup-offset start [] name places = refl
-lookup-offset start (e ∷ entries) name places =
-    let rest = lookup-offset (start + length e.0.items + 1) entries name places.1 in
-    let flip : bytes_eq name e.0.items ≡ bytes_eq e.0.items name = nat_list_eq_equiv.symm name e.0.items in
-    (λ j. cond (flip j) (Some (places.0 j)) (rest j))
-
--- the name of the first entry with this offset
-abbrev pub named : ℕ → List (Vec ℕ × ℕ) → Option (List ℕ)
-named offset [] = None
-named offset (e ∷ entries) = if e.1 == offset then Some e.0.items else named offset entries
-
-pub named-here : (offset : ℕ) (e : Vec ℕ × ℕ) (entries : List (Vec ℕ × ℕ)) → e.1 ≡ offset → named offset (e ∷ entries) ≡ Some e.0.items
-named-here offset e entries same = ap (λ b. cond b (Some e.0.items) (named offset entries)) (eq-eqb e.1 offset same)
-
-pub named-behind : (offset : ℕ) (e : Vec ℕ × ℕ) (entries : List (Vec ℕ × ℕ)) → e.1 ≢ offset → named offset (e ∷ entries) ≡ named offset entries
-named-behind offset e entries differ = ap (λ b. cond b (Some e.0.items) (named offset entries)) (⊎_elim (λ t. absurd (differ t.1)) (λ f. f.0) (eqb_tells e.1 offset))
-
--- it is the name that begins there
-pub named-from : (start : ℕ) (entries : List (Vec ℕ × ℕ)) (offset : ℕ) → InPlace start entries → named offset entries ≡ name_from start (names_of entries) offset
-named-from start [] offset places = refl
-named-from start (e ∷ entries) offset places =
-    let rest = named-from (start + length e.0.items + 1) entries offset places.1 in
-    (λ j. cond (places.0 j == offset) (Some e.0.items) (rest j))
-
--- an entry more
-pub names_of-push : (entries : List (Vec ℕ × ℕ)) (key : Vec ℕ) (offset : ℕ) → names_of (entries ++ (key, offset) ∷ []) ≡ names_of entries ++ key.items ∷ []
-names_of-push [] key offset = refl
-names_of-push (e ∷ entries) key offset = ap (λ names. e.0.items ∷ names) (names_of-push entries key offset)
-
-pub InPlace-push : (start : ℕ) (entries : List (Vec ℕ × ℕ)) (key : Vec ℕ) (offset : ℕ) → InPlace start entries → offset + 1 ≡ start + bytes_of (names_of entries) → InPlace start (entries ++ (key, offset) ∷ [])
-InPlace-push start [] key offset places behind = (omega (arith, behind), tt)
-InPlace-push start (e ∷ entries) key offset places behind =
-    (places.0, InPlace-push (start + length e.0.items + 1) entries key offset places.1 (omega (arith, behind)))
-
--- as many names as entries
-pub names_of-length : (entries : List (Vec ℕ × ℕ)) → length (names_of entries) ≡ length entries
-names_of-length [] = refl
-names_of-length (e ∷ entries) = ap suc (names_of-length entries)
 
 -- a name that is found is one of the names
 pub found : (P : List ℕ → Type 0) (start : ℕ) (names : List (List ℕ)) (offset : ℕ) (name : List ℕ) → AllByRecursion P names → name_from start names offset ≡ Some name → P name
@@ -83,7 +25,7 @@ bytes_of-push [] name = omega arith
 bytes_of-push (x ∷ names) name = omega (arith, bytes_of-push names name)
 
 -- there are no more names than bytes
-pub length-le : (names : List (List ℕ)) → length names ≤ bytes_of names
+pub length-le : (names : List (List ℕ)) → length names + 1 ≤ bytes_of names
 length-le [] = omega arith
 length-le (x ∷ names) = omega (arith, length-le names)
 
@@ -92,16 +34,100 @@ pub found_name : (r : Option (Bor (List ℕ))) (names : List (List ℕ)) (offset
 found_name None names offset all is = tt
 found_name (Some name) names offset all is = (found IsName 1 names offset name.now (recursion_from_All IsName names all) (sym is)).longest
 
--- no names where there are no entries
-pub no-names : (entries : List (Vec ℕ × ℕ)) → (length entries ≡ 0 → names_of entries ≡ []) × (names_of entries ≡ [] → length entries ≡ 0)
-no-names [] = (λ none. refl, λ none. refl)
-no-names (e ∷ entries) = (λ none. absurd cc, λ none. absurd cc)
+either : (b : Bool) → (b ≡ true) ⊎ (b ≡ false)
+either true = inl refl
+either false = inr refl
 
--- a name with bytes begins where the search finds it
-pub offset_of-behind : (table : Names) (name : List ℕ) → false ≡ (length name == 0) → offset_from 1 table.names name ≡ offset_of table name
-offset_of-behind table [] some = absurd (true≢false (sym some))
-offset_of-behind table (b ∷ name) some = refl
+or_none : (o : Option ℕ) → option_or o None ≡ o
+or_none None = refl
+or_none (Some n) = refl
 
-pub offset_of-none : (table : Names) (name : List ℕ) → offset_of table name ≡ None → offset_from 1 table.names name ≡ None
-offset_of-none table [] none = absurd cc
-offset_of-none table (b ∷ name) none = none
+-- equal texts are equal to the same texts
+alike : (x name text : List ℕ) → bytes_eq name text ≡ true → bytes_eq x name ≡ bytes_eq x text
+alike x name text same = nat_list_eq_equiv.symm x name ∙ nat_list_eq_equiv.congr name text x same ∙ nat_list_eq_equiv.symm text x
+
+-- the search of a list that a name more is appended to
+offset_from-push : (start : ℕ) (names : List (List ℕ)) (name text : List ℕ) (next : ℕ) → next + 1 ≡ start + bytes_of names
+    → offset_from start (names ++ name ∷ []) text ≡ option_or (offset_from start names text) (if bytes_eq name text then Some next else None)
+offset_from-push start [] name text next behind =
+    let e : start ≡ next = omega (arith, behind) in ap (λ n. cond (bytes_eq name text) (Some n) None) e
+offset_from-push start (x ∷ names) name text next behind =
+    let rest = offset_from-push (start + length x + 1) names name text next (omega (arith, behind)) in
+    elim (bytes_eq x text) as (λ b. cond b (Some start) (offset_from (start + length x + 1) (names ++ name ∷ []) text) ≡ option_or (cond b (Some start) (offset_from (start + length x + 1) names text)) (if bytes_eq name text then Some next else None)) [
+      | true ↦ refl
+      | false ↦ rest
+    ]
+
+-- the search of a map with an entry more
+lookup-push : (test : Vec ℕ → Bool) (entries : List (Vec ℕ × ℕ)) (e : Vec ℕ × ℕ) → lookup test (entries ++ e ∷ []) ≡ option_or (lookup test entries) (if test e.0 then Some e.1 else None)
+lookup-push test [] e = refl
+lookup-push test (x ∷ entries) e = elim (test x.0) as (λ b. cond b (Some x.1) (lookup test (entries ++ e ∷ [])) ≡ option_or (cond b (Some x.1) (lookup test entries)) (if test e.0 then Some e.1 else None)) [
+  | true ↦ refl
+  | false ↦ lookup-push test entries e
+]
+
+-- an empty list and an empty map
+pub finds_none : FindsFirst [] []
+finds_none [] = refl
+finds_none (b ∷ name) = refl
+
+-- the empty text is not that of a name with bytes
+empty_differs : (key : List ℕ) → 0 ≢ length key → bytes_eq [] key ≡ false
+empty_differs [] some = absurd (some refl)
+empty_differs (b ∷ key) some = refl
+
+-- a new name in both
+pub finds-push : (names : List (List ℕ)) (entries : List (Vec ℕ × ℕ)) (key : Vec ℕ) (offset : ℕ) → offset ≡ bytes_of names → 0 ≢ length key.items → FindsFirst names entries
+    → FindsFirst (names ++ key.items ∷ []) (entries ++ (key, offset) ∷ [])
+finds-push names entries key offset at some finds [] =
+    lookup-push (λ k. bytes_eq [] k.items) entries (key, offset)
+    ∙ (λ j. option_or (finds [] j) (cond (empty_differs key.items some j) (Some offset) None))
+finds-push names entries key offset at some finds (b ∷ text) =
+    let flip : bytes_eq (b ∷ text) key.items ≡ bytes_eq key.items (b ∷ text) = nat_list_eq_equiv.symm (b ∷ text) key.items in
+    lookup-push (λ k. bytes_eq (b ∷ text) k.items) entries (key, offset)
+    ∙ (λ j. option_or (finds (b ∷ text) j) (cond (flip j) (Some offset) None))
+    ∙ sym (offset_from-push 1 names key.items (b ∷ text) offset (omega (arith, at)))
+
+-- equal texts are found at one place
+found_equal : (start : ℕ) (names : List (List ℕ)) (name text : List ℕ) → bytes_eq name text ≡ true → offset_from start names name ≡ offset_from start names text
+found_equal start [] name text same = refl
+found_equal start (x ∷ names) name text same =
+    let rest = found_equal (start + length x + 1) names name text same in
+    (λ j. cond (alike x name text same j) (Some start) (rest j))
+
+or_same : (o p : Option ℕ) → is_some o ≡ true → option_or o p ≡ o
+or_same None p some = absurd (true≢false (sym some))
+or_same (Some n) p some = refl
+
+-- a name more that is found before, or is empty, changes no search
+pub finds_still : (table : Names) (entries : List (Vec ℕ × ℕ)) (name : List ℕ) → is_some (offset_of table name) ≡ true → FindsFirst table.names entries → FindsFirst (table.names ++ name ∷ []) entries
+finds_still table entries name there finds [] = finds []
+finds_still table entries [] there finds (b ∷ text) =
+    finds (b ∷ text) ∙ sym (or_none (offset_from 1 table.names (b ∷ text)))
+    ∙ sym (offset_from-push 1 table.names [] (b ∷ text) (bytes_of table.names) (omega arith))
+finds_still table entries (a ∷ name) there finds (b ∷ text) =
+    let next = bytes_of table.names in
+    let old = offset_from 1 table.names (b ∷ text) in
+    let unchanged : old ≡ option_or old (if bytes_eq (a ∷ name) (b ∷ text) then Some next else None) =
+    ⊎_elim (λ t. sym (or_same old (if bytes_eq (a ∷ name) (b ∷ text) then Some next else None) (ap is_some (sym (found_equal 1 table.names (a ∷ name) (b ∷ text) t)) ∙ there)))
+    (λ f. sym (ap (λ e. option_or old (cond e (Some next) None)) f ∙ or_none old)) (either (bytes_eq (a ∷ name) (b ∷ text))) in
+    finds (b ∷ text) ∙ unchanged ∙ sym (offset_from-push 1 table.names (a ∷ name) (b ∷ text) next (omega arith))
+
+-- where the search begins for a name with bytes
+pub first-behind : (table : Names) (name : List ℕ) → false ≡ (length name == 0) → first_of table.names name ≡ offset_of table name
+first-behind table [] some = absurd (true≢false (sym some))
+first-behind table (b ∷ name) some = refl
+
+pub first-none : (table : Names) (name : List ℕ) → offset_of table name ≡ None → (first_of table.names name ≡ None) × (0 ≢ length name)
+first-none table [] none = absurd cc
+first-none table (b ∷ name) none = (none, λ e. omega (arith, e))
+
+-- no names where there are none
+pub nil_from : (names : List (List ℕ)) → length names ≡ 0 → names ≡ []
+nil_from [] e = refl
+nil_from (x ∷ names) e = absurd (omega (arith, e))
+
+-- what holds after a call that may want memory
+pub either_way : {A E : Type 0} (P : List (List ℕ) → Type 0) (r : Result A E) (new more old : List (List ℕ)) → OnOk r (new ≡ more) → OnErr r (new ≡ old) → P more → P old → P new
+either_way P (Ok a) new more old ok err grown same = subst P (sym ok) grown
+either_way P (Err e) new more old ok err grown same = subst P (sym err) same

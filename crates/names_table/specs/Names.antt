@@ -1,8 +1,9 @@
 -- The table of names: each name begins at an offset, as it does among the strings of the stream `/names`.
-use Rattle.std.specs.Prelude.{◌≢◌, ◌≤◌, ◌+◌, ◌==◌, ℕ, Bool, IsTrue, nat_lt, List, [], ◌∷◌, ◌++◌, length, All, Option, None, Some, unwrap_or, is_none, Result, Ok, Err, is_ok, ◌&&◌, if◌then◌else◌}
+use Rattle.std.specs.Prelude.{◌≡◌, ◌≤◌, ◌⊎◌, ◌+◌, ◌==◌, ℕ, Bool, IsTrue, nat_lt, List, [], ◌∷◌, ◌++◌, length, All, Option, None, Some, unwrap_or, is_none, Result, Ok, Err, is_ok, ◌&&◌, if◌then◌else◌}
 use Rattle.std.specs.Option.{option_map}
 use Rattle.std.specs.Str.{bytes_eq}
 pub use Rattle.srv_edge.specs.Name.{IsName}
+use Rattle.srv_edge.specs.declared.limit.TheConstants.{MOST_NAME_BYTES}
 use Rattle.srv_edge.specs.Growth.{AnswersOrWants}
 use Rattle.names_table.specs.declared.fault.NameFault.{NameFault}
 use Rattle.names_table.specs.declared.fault.NameFault.TheVariants.{Full, OutOfMemory}
@@ -64,3 +65,14 @@ after_add table name = if appends table name then record table { names = table.n
 -- An add answers so and leaves that table; or it wants memory, where it would append.
 abbrev pub Adds : Names → List ℕ → Result ℕ NameFault → Names → Type 0
 Adds old name result new = AnswersOrWants (Err OutOfMemory) (IsTrue (appends old name)) (answer_to_add old name) (after_add old name) result old new
+
+-- the limit leaves room for the name
+abbrev pub HasRoomFor : Names → List ℕ → Type 0
+HasRoomFor table name = needed_for table name ≤ table.max_bytes
+
+-- What holds of each table: its names are names and take no more bytes than they may.
+pub record IsNamesTable (table : Names) : Type 0 where
+  pub names : All IsName table.names
+  pub bytes : bytes_of table.names ≤ table.max_bytes
+  pub limit : table.max_bytes ≤ MOST_NAME_BYTES
+  pub version : (table.version ≡ 1) ⊎ (table.version ≡ 2)

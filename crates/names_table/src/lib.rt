@@ -1,8 +1,8 @@
 //! The table of names, each at its offset among the strings of the stream `/names`.
 #![tactic(auto)]
 
-mod entries;
 mod fault;
+mod list;
 mod table;
 #[cfg(test)]
 mod tests;

@@ -1,38 +1,37 @@
-ghost use Rattle.std.specs.Prelude.{◌≡◌, ◌≤◌, ◌^◌, ◌↔◌, ◌⊎◌, [], Err, None, Some, length, IfOk, IfSome, IsTrue};
+ghost use Rattle.std.specs.Prelude.{◌≡◌, ◌≤◌, ◌^◌, ◌↔◌, ◌⊎◌, ◌++◌, [], ◌∷◌, Err, None, Some, length, IfOk, IfSome, IsTrue, OnErr, OnOk};
 ghost use Rattle.std.specs.Option.{option_copied};
 ghost use Rattle.srv_edge.specs.declared.limit.TheConstants.{NAME_BYTES};
-ghost use Rattle.names_table.specs.Names.{Adds, IsName, Names, bytes_of, name_at, offset_of};
+ghost use Rattle.names_table.specs.Names.{Adds, HasRoomFor, IsName, IsNamesTable, Names, bytes_of, name_at, offset_of};
 
-use crate::entries::{append, find_name};
 use crate::fault::NameFault;
+use crate::list::NameList;
 use indexmap::IndexMap;
 use srv_edge::Limits;
 use std::alloc::{AllocError, Global};
 use std::hash::RandomState;
 use std::marker::Model;
 
-/// The names of one file, each found by its text.
+/// The names of one file, each found by its text and by its offset. A file that others wrote may
+/// have equal and empty ones; each text is then found where it first stands.
 #[derive(Drop)]
 pub struct NamesTable {
     max_bytes: u32,
     version: u32,
+    list: NameList,
     offsets: IndexMap<Vec<u8>, u32, RandomState>,
-    bytes: u32,
 }
 
 impl Model for NamesTable {
-    ghost use Rattle.std.specs.Prelude.{◌≡◌, ◌≤◌, ◌^◌, All};
-    ghost use Rattle.names_table.specs.Entries.{InPlace, names_of};
-    ghost use Rattle.names_table.specs.Names.{IsName, Names, bytes_of};
+    ghost use Rattle.names_table.specs.Entries.{FindsFirst};
+    ghost use Rattle.names_table.specs.Names.{IsNamesTable, Names};
 
     ghost Value = { Names };
 
-    ghost view = { λ t. record
-        { max_bytes = t.max_bytes; version = t.version; names = names_of t.offsets.entries } };
+    ghost view = { λ t. record { max_bytes = t.max_bytes; version = t.version; names = t.list } };
 
-    ghost invariant = { λ t. All IsName (names_of t.offsets.entries) × InPlace 1 t.offsets.entries
-        × (t.bytes ≡ bytes_of (names_of t.offsets.entries)) × (t.bytes ≤ t.max_bytes)
-        × (t.max_bytes ≤ 2 ^ 28) };
+    ghost invariant = { λ t. IsNamesTable (record
+        { max_bytes = t.max_bytes; version = t.version; names = t.list })
+        × FindsFirst t.list t.offsets.entries };
 }
 
 impl NamesTable {
@@ -52,8 +51,8 @@ impl NamesTable {
         Ok(NamesTable {
             max_bytes: limits.name_bytes,
             version,
+            list: NameList::new(alloc),
             offsets: IndexMap::with_hasher(alloc, keys),
-            bytes: 1,
         })
     }
 
@@ -66,18 +65,47 @@ impl NamesTable {
         if let Some(offset) = self.find(name) {
             return Ok(offset);
         }
-        let offset = self.bytes;
+        let offset = self.bytes();
         let needed = offset + name.len() as u32 + 1;
         if needed > self.max_bytes {
             return Err(NameFault::Full { needed });
         }
-        match append(&mut self.offsets, name, offset) {
-            Ok(()) => {
-                self.bytes = needed;
-                Ok(offset)
-            }
+        match self.append_new(name) {
+            Ok(()) => Ok(offset),
             Err(_) => Err(NameFault::OutOfMemory),
         }
+    }
+
+    /// Appends a name of an opened file at its place, whatever names there are. Equal and empty
+    /// ones are kept, and an add finds the first of them.
+    pub fn append(&mut self, name: &[u8]) -> Result<(), AllocError>
+        requires name { IsName name.now }
+        requires room { HasRoomFor self.old name.now }
+        ensures ok { OnOk result
+            (self.new ≡ record self.old { names = self.old.names ++ name.now ∷ [] }) }
+        ensures err { OnErr result (self.new ≡ self.old) }
+    {
+        if self.find(name).is_some() {
+            return self.list.push(name);
+        }
+        self.append_new(name)
+    }
+
+    // Appends a name that is not there. All memory is taken before anything changes.
+    fn append_new(&mut self, name: &[u8]) -> Result<(), AllocError>
+        requires name { IsName name.now }
+        requires new { offset_of self.old name.now ≡ None }
+        requires room { HasRoomFor self.old name.now }
+        ensures ok { OnOk result
+            (self.new ≡ record self.old { names = self.old.names ++ name.now ∷ [] }) }
+        ensures err { OnErr result (self.new ≡ self.old) }
+    {
+        let offset = self.list.bytes();
+        let key = name.to_vec(*self.offsets.allocator())?;
+        self.offsets.reserve(1)?;
+        self.list.push(name)?;
+        self.offsets.insert(key, offset).unwrap();
+        Ok(())
     }
 
     // Where an equal name begins.
@@ -98,26 +126,27 @@ impl NamesTable {
         if offset == 0 {
             return Some(&[]);
         }
-        find_name(&self.offsets, offset)
+        self.list.get(offset)
     }
 
     /// How many names there are, the empty one at 0 not among them.
     pub fn len(&self) -> u32
         ensures { result ≡ length self.now.names }
     {
-        self.offsets.len() as u32
+        self.list.len()
     }
 
     pub fn is_empty(&self) -> bool
         ensures { IsTrue result ↔ (self.now.names ≡ []) }
     {
-        self.offsets.is_empty()
+        self.len() == 0
     }
 
     /// How many bytes the names take, with a NUL behind each and one before all.
     pub fn bytes(&self) -> u32
-        ensures { result ≡ bytes_of self.now.names }
+        ensures bytes { result ≡ bytes_of self.now.names }
+        ensures kept { IsNamesTable self.now }
     {
-        self.bytes
+        self.list.bytes()
     }
 }

@@ -1,5 +1,6 @@
 //! The names of the protocol's example: each takes its bytes and a NUL behind the NUL of the empty
 //! name.
+ghost use Rattle.std.specs.Prelude.{◌≡◌, ◌≤◌};
 ghost use Rattle.names_table.specs.Names.{IsName};
 
 use crate::{NameFault, NamesTable};
@@ -17,6 +18,16 @@ fn adds(
     requires { IsName name.now }
 {
     table.add(name) == answer && (table.len(), table.bytes()) == size
+}
+
+// Appends a name as the last, where the limit is at least this.
+fn appends(table: &mut NamesTable, name: &[u8], limit: u32) -> bool
+    requires name { IsName name.now }
+    requires limit { limit ≤ table.old.max_bytes }
+    ensures { table.new.max_bytes ≡ table.old.max_bytes }
+{
+    let needed = table.bytes() + name.len() as u32 + 1;
+    needed <= limit && table.append(name).is_ok() && table.bytes() == needed
 }
 
 #[test]
@@ -47,5 +58,43 @@ fn names_at_their_offsets(rt: HostRuntime) -> Result<(), Fail> {
         assert_eq!(rt; table.get(offset), name, "at {offset}");
     }
     assert!(rt; !table.is_empty());
+    Ok(())
+}
+
+#[test]
+fn equal_and_empty_names_keep_their_places(rt: HostRuntime) -> Result<(), Fail> {
+    let limits = Limits {
+        records: 1,
+        bytes: 4,
+        name_bytes: 12,
+        calls: 1,
+        blocks: 9,
+    };
+    let mut table = NamesTable::new(rt.alloc(), RandomState::new(&rt)?, limits, 2)?;
+    assert!(rt; appends(&mut table, b"a", 12));
+    assert!(rt; appends(&mut table, b"", 12));
+    assert!(rt; appends(&mut table, b"bc", 12));
+    assert!(rt; appends(&mut table, b"a", 12));
+    assert!(rt; appends(&mut table, b"", 12));
+    assert!(rt; adds(&mut table, b"a", Ok(1), (5, 10)));
+    assert!(rt; adds(&mut table, b"", Ok(0), (5, 10)));
+    assert!(rt; adds(&mut table, b"bc", Ok(4), (5, 10)));
+    assert!(rt; adds(&mut table, b"c", Ok(10), (6, 12)));
+    let found: [(u32, Option<&[u8]>); 11] = [
+        (0, Some(b"")),
+        (1, Some(b"a")),
+        (2, None),
+        (3, Some(b"")),
+        (4, Some(b"bc")),
+        (5, None),
+        (6, None),
+        (7, Some(b"a")),
+        (9, Some(b"")),
+        (10, Some(b"c")),
+        (12, None),
+    ];
+    for (offset, name) in found {
+        assert_eq!(rt; table.get(offset), name, "at {offset}");
+    }
     Ok(())
 }
