@@ -71,9 +71,9 @@ past-le hashes heads bucket zero at is = rw is (omega arith)
 past-le hashes heads bucket (suc n) at is =
     elim (eqb_tells (slice_index hashes n % heads) bucket) [
       | inl e ↦
-        let i : at ≡ Some n = is ∙ ap (λ c. slice_get c 0) (below_here hashes heads bucket n e.1) in
-        rw i (omega arith)
+          let i : at ≡ Some n = is ∙ ap (λ c. slice_get c 0) (below_here hashes heads bucket n e.1) in
+          rw i (omega arith)
       | inr e ↦
-        let r = past-le hashes heads bucket n at (is ∙ ap (λ c. slice_get c 0) (below_other hashes heads bucket n e.1)) in
-        omega (arith, r)
+          let r = past-le hashes heads bucket n at (is ∙ ap (λ c. slice_get c 0) (below_other hashes heads bucket n e.1)) in
+          omega (arith, r)
     ]
