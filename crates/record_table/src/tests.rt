@@ -1,5 +1,5 @@
 //! Many records, and equal ones.
-ghost use Rattle.std.specs.Prelude.{◌≡◌, ◌≤◌, ◌<◌, ◌^◌, IfOk, length};
+ghost use Rattle.std.specs.Prelude.{◌≡◌, ◌≤◌, ◌<◌, ◌^◌, length};
 ghost use Rattle.record_table.specs.Table.{IsRecord};
 
 use super::*;
