@@ -1,0 +1,5 @@
+pub mod RecordLists
+pub mod Offsets
+pub mod Joining
+pub mod HeaderTexts
+pub mod Streams

@@ -1,0 +1,4 @@
+pub mod HeaderText
+pub mod Reading
+pub mod Stream
+pub mod Hashes

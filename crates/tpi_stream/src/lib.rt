@@ -1,0 +1,21 @@
+//! The streams of types and of items: a header and the records, read and written, and the text of
+//! the hash stream beside.
+#![tactic(auto)]
+
+mod fault;
+mod hashes;
+mod header;
+mod laws;
+mod reading;
+
+pub use crate::fault::TpiFault;
+pub use crate::hashes::{OFFSET_STEP, hash_text};
+pub use crate::header::{
+    FIRST_INDEX, HEADER_BYTES, Header, KEY_BYTES, LEAST_BUCKETS, MOST_BUCKETS, VERSION,
+    header_bytes,
+};
+pub use crate::laws::{records_are_joined, text_is_read};
+pub use crate::reading::{Records, read_records};
+
+#[cfg(test)]
+mod tests;
