@@ -28,8 +28,8 @@ pub fn reading_hangs_on_its_source()
     ensures torn { (file other : List ℕ) (limit : ℕ) (image : Image)
         (streams : List (Option (List ℕ))) (at n : ℕ) → Reads file limit image streams
         → SparesSource image file at n → Torn at n file other → Reads other limit image streams }
-    ensures with_head { (file : List ℕ) (limit : ℕ) (image : Image) (streams : List (Option (List ℕ)))
-        → Reads file limit image streams
+    ensures with_head { (file : List ℕ) (limit : ℕ) (image : Image)
+        (streams : List (Option (List ℕ))) → Reads file limit image streams
         → Reads (with_head file (superblock_text image.head)) limit image streams }
 {}
 

@@ -66,7 +66,8 @@ impl RecordList {
 
     /// The bytes of all records, one after another.
     pub fn joined(&self) -> &[u8]
-        ensures { result.now ≡ joined self.now }
+        ensures bytes { result.now ≡ joined self.now }
+        ensures few { length result.now < 2 ^ 32 }
     {
         &self.bytes
     }

@@ -11,5 +11,5 @@ returns-in-Ok-clause-kept c =
     let r = c.args.bytes.now in
     rw c.in-Ok.ensures.ok (record {
       few = omega (arith, length-append list (r ∷ []), c.len.ensures);
-      short = omega (arith, length-joined_push list r, ap length c.joined.ensures, c.if-needed-limits.false);
+      short = omega (arith, length-joined_push list r, ap length c.joined.ensures.bytes, c.if-needed-limits.false);
     })

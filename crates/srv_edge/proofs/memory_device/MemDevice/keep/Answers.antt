@@ -1,4 +1,4 @@
-use Rattle.std.proofs.Common.{◌≡◌, ◌++◌, [], ◌∷◌, inl, ap, ◌∙◌, arith}
+use Rattle.std.proofs.Common.{◌≡◌, ◌++◌, [], ◌∷◌, inl, ◌∙◌, arith}
 use Rattle.srv_edge.proofs.Replaying.{adds_pushed, if_ok, shows_same}
 use Rattle.srv_edge.proofs.memory_device.MemDevice.keep.Goals as goal
 
