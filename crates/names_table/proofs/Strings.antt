@@ -184,7 +184,7 @@ starts-rise bytes starts a =
     let h = rises 1 names i j le (omega (arith, lt, length-begin bytes starts a)) in
     omega (arith, h, ap (λ s. get_or s i 0) a.begin, ap (λ s. get_or s j 0) a.begin)
 
-before_or_behind : (k i : ℕ) → (k < i) ⊎ (i ≤ k)
+pub before_or_behind : (k i : ℕ) → (k < i) ⊎ (i ≤ k)
 before_or_behind k zero = inr (omega arith)
 before_or_behind zero (suc i) = inl (omega arith)
 before_or_behind (suc k) (suc i) = ⊎_elim (λ l. inl (omega (arith, l))) (λ l. inr (omega (arith, l))) (before_or_behind k i)

@@ -3,9 +3,11 @@
 
 mod fault;
 mod list;
+mod read;
 mod table;
 #[cfg(test)]
 mod tests;
 
-pub use crate::fault::NameFault;
+pub use crate::fault::{NameFault, NamesFault};
+pub use crate::read::read_names;
 pub use crate::table::NamesTable;

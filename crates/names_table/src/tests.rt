@@ -3,8 +3,9 @@
 ghost use Rattle.std.specs.Prelude.{◌≡◌, ◌≤◌};
 ghost use Rattle.names_table.specs.Names.{IsName};
 
-use crate::{NameFault, NamesTable};
+use crate::{NameFault, NamesFault, NamesTable, read_names};
 use srv_edge::Limits;
+use std::alloc::Global;
 use std::hash::RandomState;
 use std::test::Fail;
 
@@ -95,6 +96,54 @@ fn equal_and_empty_names_keep_their_places(rt: HostRuntime) -> Result<(), Fail> 
     ];
     for (offset, name) in found {
         assert_eq!(rt; table.get(offset), name, "at {offset}");
+    }
+    Ok(())
+}
+
+// The stream with no names, and with the names `a` and `bc`.
+const NO_NAMES: [u8; 29] = [
+    0xFE, 0xEF, 0xFE, 0xEF, 1, 0, 0, 0, 1, 0, 0, 0, 0, 2, 0, 0, 0, 0, 0, 0, 0, 0, 0, 0, 0, 0, 0, 0,
+    0,
+];
+
+const TWO_NAMES: [u8; 42] = [
+    0xFE, 0xEF, 0xFE, 0xEF, 1, 0, 0, 0, 6, 0, 0, 0, 0, b'a', 0, b'b', b'c', 0, 4, 0, 0, 0, 0, 0, 0,
+    0, 1, 0, 0, 0, 3, 0, 0, 0, 0, 0, 0, 0, 2, 0, 0, 0,
+];
+
+// How many names and bytes are read of a stream with one byte changed.
+fn sizes(
+    alloc: Global,
+    keys: RandomState,
+    stream: &mut [u8],
+    change: (usize, u8),
+) -> Result<(u32, u32), NamesFault> {
+    if change.0 < stream.len() {
+        stream[change.0] = change.1;
+    }
+    let table = read_names(alloc, keys, stream, Limits::STANDARD)?;
+    Ok((table.len(), table.bytes()))
+}
+
+#[test]
+fn streams_read(rt: HostRuntime) -> Result<(), Fail> {
+    let alloc = rt.alloc();
+    let keys = RandomState::new(&rt)?;
+    let mut stream = TWO_NAMES;
+    let two = sizes(alloc, keys, &mut stream, (18, 4));
+    assert!(rt; two == Ok((2, 6)));
+    let cases = [
+        ((13, 2), Ok((0, 1))),
+        ((0, 0), Err(NamesFault::Header { at: 0 })),
+        ((4, 3), Err(NamesFault::Header { at: 4 })),
+        ((8, 18), Err(NamesFault::Size { at: 8 })),
+        ((12, 1), Err(NamesFault::Text { at: 12 })),
+        ((8, 2), Err(NamesFault::Text { at: 13 })),
+    ];
+    for (change, want) in cases {
+        let mut stream = NO_NAMES;
+        let found = sizes(alloc, RandomState::new(&rt)?, &mut stream, change);
+        assert!(rt; found == want, "{}", change.0);
     }
     Ok(())
 }
