@@ -33,7 +33,8 @@ pub fn read_names(
 {
     let (version, size) = read_header(stream, limits.name_bytes)?;
     let mut table = NamesTable::new(alloc, keys, limits, version)?;
-    append_strings(&mut table, &stream[12..12 + size as usize])?;
+    let start = HEADER_BYTES as usize;
+    append_strings(&mut table, &stream[start..start + size as usize])?;
     Ok(table)
 }
 
@@ -41,7 +42,7 @@ pub fn read_names(
 fn read_header(stream: &[u8], max_bytes: u32) -> Result<(u32, u32), NamesFault>
     ensures ok { IfOk result (λ r. (header_fault max_bytes stream.now ≡ None)
         × (r.0 ≡ version_in stream.now) × (r.1 ≡ size_in stream.now)
-        × ((r.0 ≡ 1) ⊎ (r.0 ≡ 2)) × (r.1 ≤ max_bytes) × (12 + r.1 ≤ length stream.now)) }
+        × ((r.0 ≡ 1) ⊎ (r.0 ≡ 2)) × (r.1 ≤ max_bytes) × (HEADER_BYTES + r.1 ≤ length stream.now)) }
     ensures err { IfErr result (λ e. header_fault max_bytes stream.now ≡ Some e) }
 {
     if stream.len() < HEADER_BYTES as usize || LittleEndian::read_u32(stream) != SIGNATURE {
@@ -52,7 +53,7 @@ fn read_header(stream: &[u8], max_bytes: u32) -> Result<(u32, u32), NamesFault>
         return Err(NamesFault::Header { at: 4 });
     }
     let size = LittleEndian::read_u32(&stream[8..]);
-    if size > max_bytes || stream.len() - 12 < size as usize {
+    if size > max_bytes || stream.len() - (HEADER_BYTES as usize) < size as usize {
         return Err(NamesFault::Size { at: 8 });
     }
     Ok((version, size))
@@ -89,10 +90,10 @@ fn append_names(table: &mut NamesTable, strings: &[u8]) -> Result<(), NamesFault
     requires room { length strings.now + 1 ≤ table.old.max_bytes }
     requires limit { table.old.max_bytes ≤ MOST_NAME_BYTES }
     requires nul { get_or strings.now (length strings.now - 1) 0 ≡ 0 }
-    ensures ok { OnOk result ((first_long 13 (names_cut strings.now) ≡ None)
+    ensures ok { OnOk result ((first_long (HEADER_BYTES + 1) (names_cut strings.now) ≡ None)
         × (table.new ≡ record table.old { names = names_cut strings.now })) }
     ensures err { IfErr result (λ e. (option_map fault.Text
-        (first_long 13 (names_cut strings.now)) ≡ Some e) ⊎ (e ≡ fault.OutOfMemory)) }
+        (first_long (HEADER_BYTES + 1) (names_cut strings.now)) ≡ Some e) ⊎ (e ≡ fault.OutOfMemory)) }
 {
     let mut at = 0;
     while at < strings.len() {
