@@ -1,6 +1,6 @@
 -- The text of a header: what is read was spelled so, and what is spelled is read again.
-use Rattle.std.proofs.Common.{◌≡◌, ◌≤◌, ◌<◌, ◌+◌, ◌^◌, ℕ, List, ◌++◌, length, take, drop, refl, sym, ap, ◌∙◌, arith, lit≤}
-use Rattle.std.proofs.lemmas.List.{drop-drop, length-append, length-drop}
+use Rattle.std.proofs.Common.{◌≡◌, ◌≤◌, ◌+◌, ℕ, List, ◌++◌, length, drop, refl, sym, ap, ◌∙◌, arith, lit≤}
+use Rattle.std.proofs.lemmas.List.{drop-drop, length-drop}
 use Rattle.byteorder.specs.Endian.{little_bytes, little_number}
 use Rattle.byteorder.specs.Numbers.{little_number-reads_back}
 use Rattle.msf_blocks.proofs.Numbers.{AreBytes, AreBytes-drop}

@@ -1,17 +1,15 @@
 -- Bytes are read as the records of which they are joined.
-use Rattle.std.proofs.Common.{◌≡◌, ◌≤◌, ◌<◌, ◌+◌, ℕ, zero, suc, Bool, true, false, cond, List, [], ◌∷◌, ◌++◌, Result, Ok, Err, IfOk, length, take, drop, refl, sym, ap, subst, ◌∙◌, arith, le-leb}
+use Rattle.std.proofs.Common.{◌≡◌, ◌+◌, ℕ, zero, suc, Bool, true, false, cond, List, [], ◌∷◌, ◌++◌, Result, Ok, Err, IfOk, length, take, drop, refl, sym, ap, subst, ◌∙◌, arith, le-leb}
 use Rattle.std.specs.List.{AllByRecursion}
 use Rattle.std.proofs.lemmas.Bool.{and_from}
 use Rattle.std.proofs.lemmas.List.{length-append, length-take-le, take_at, drop_at, take-append-drop}
 use Rattle.byteorder.specs.Numbers.{little_from-append, little_from-take}
-use Rattle.msf_blocks.specs.Judging.{◌>>=◌}
-use Rattle.msf_blocks.proofs.Judging.{bound_ok}
 use Rattle.srv_edge.specs.Records.{joined}
 use Rattle.tpi_stream.specs.declared.fault.TpiFault.{TpiFault}
 use Rattle.tpi_stream.specs.declared.fault.TpiFault.TheVariants.{Record}
 use Rattle.tpi_stream.specs.Reading.{has_record, records_in, size_of, with_record}
 use Rattle.tpi_stream.specs.Stream.{IsRecord}
-use Rattle.tpi_stream.proofs.RecordLists.{Whole, records_end, records_next, whole_record}
+use Rattle.tpi_stream.proofs.RecordLists.{records_end, records_next, whole_record}
 
 size_in_front : (r rest : List ℕ) → IsRecord r → size_of (r ++ rest) ≡ length r
 size_in_front r rest is = ap (λ n. n + 2) (little_from-append 2 r rest (omega (arith, is.least))) ∙ is.size

@@ -1,5 +1,5 @@
 -- What is read stands in the stream, and what stands there is read.
-use Rattle.std.proofs.Common.{◌≡◌, ◌≤◌, ◌<◌, ◌+◌, ◌-◌, ◌^◌, ◌&&◌, ℕ, Bool, true, false, cond, All, List, [], ◌∷◌, ◌++◌, Option, Some, None, Result, Ok, Err, IfOk, length, get_or, take, drop, refl, sym, ap, subst, ◌∙◌, arith, le-leb, leb-true, eqb-true, eq-eqb, eqb, leb, lit<, inl, inr}
+use Rattle.std.proofs.Common.{◌≡◌, ◌≤◌, ◌<◌, ◌+◌, ◌-◌, ◌^◌, ◌&&◌, ℕ, Bool, true, false, cond, All, List, [], ◌∷◌, ◌++◌, Option, None, Result, Ok, Err, IfOk, length, take, drop, refl, sym, ap, subst, ◌∙◌, arith, le-leb, leb-true, eqb-true, eq-eqb, eqb, leb, lit<, inl, inr}
 use Rattle.std.proofs.lemmas.Bool.{and_from, and_parts, cases_lt}
 use Rattle.std.proofs.lemmas.List.{get_or_past, length-append, length-drop, length-take-le, take_at, take-append-drop}
 use Rattle.byteorder.specs.Numbers.{little_from-lt}
@@ -12,7 +12,7 @@ use Rattle.tpi_stream.specs.declared.fault.TpiFault.TheVariants as fault
 use Rattle.tpi_stream.specs.declared.header.Header.{Header}
 use Rattle.tpi_stream.specs.declared.reading.Records.{Records}
 use Rattle.tpi_stream.specs.HeaderText.{header_in, header_text}
-use Rattle.tpi_stream.specs.Reading.{counted, damage_in, header_fault, header_of, header_tests, reading, record_bytes_of, records_in}
+use Rattle.tpi_stream.specs.Reading.{counted, damage_in, header_fault, header_of, reading, record_bytes_of, records_in}
 use Rattle.tpi_stream.specs.Stream.{IsHeader, IsStream}
 use Rattle.tpi_stream.proofs.HeaderTexts.{drop-header_text, header_read, header_spelled, length-header_text}
 use Rattle.tpi_stream.proofs.Joining.{joined_read, read_joined}

@@ -1,6 +1,5 @@
-use Rattle.std.proofs.Common.{◌≡◌, ◌≤◌, ◌<◌, ◌+◌, ◌^◌, ◌++◌, length, take, refl, sym, ap, ◌∙◌, arith}
+use Rattle.std.proofs.Common.{◌≡◌, ◌+◌, ◌++◌, length, refl, sym, ap, ◌∙◌, arith}
 use Rattle.std.specs.List.{flat_map, range_with_len}
-use Rattle.srv_edge.specs.Records.{joined}
 use Rattle.tpi_stream.specs.Hashes.{index_offsets, offset_between, offset_text, start_at}
 use Rattle.tpi_stream.proofs.Offsets.{put_next, start_most, start_next}
 use Rattle.tpi_stream.proofs.hashes.put_offsets.Goals as goal
@@ -12,7 +11,7 @@ overflow_add-end c =
     let lt = c.in-Some.ensures.some.0 refl in
     let next = start_next records i c.in-Some.record.now c.in-Some.ensures.record lt in
     let most = start_most records (i + 1) in
-    omega (arith, next, most, c.loop-record.invariant.1, ap length c.joined-whole.ensures)
+    omega (arith, next, most, c.loop-record.invariant.1, ap length c.joined-bytes.ensures)
 
 pub loop-record-preserved : goal.loop-record-preserved
 loop-record-preserved c =

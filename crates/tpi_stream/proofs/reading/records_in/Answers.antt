@@ -1,7 +1,7 @@
-use Rattle.std.proofs.Common.{◌≡◌, ◌<◌, ◌+◌, ◌-◌, ◌++◌, ◌∷◌, [], Err, length, subst, ap, sym, ◌∙◌, arith}
+use Rattle.std.proofs.Common.{◌<◌, ◌+◌, ◌-◌, ◌++◌, ◌∷◌, [], Err, length, ap, sym, ◌∙◌, arith}
 use Rattle.std.proofs.lemmas.Bool.{eqb-false, eqb-true}
 use Rattle.tpi_stream.specs.declared.fault.TpiFault.TheVariants.{Record}
-use Rattle.tpi_stream.proofs.RecordLists.{SoFar, so_far_end, so_far_fault, so_far_next}
+use Rattle.tpi_stream.proofs.RecordLists.{so_far_end, so_far_fault, so_far_next}
 use Rattle.tpi_stream.proofs.reading.records_in.Goals as goal
 
 pub returns-in_default : goal.returns-in_default
