@@ -43,7 +43,8 @@ fn put_offsets(text: &mut Vec<u8>, records: &RecordList) -> Result<(), AllocErro
     requires { length records.now ≤ 2 ^ 23 }
     ensures { OnOk result (text.new.items ≡ text.old.items ++ index_offsets records.now) }
 {
-    let _whole = records.joined().len();
+    // All records have under 2 ^ 32 bytes, so that the sum of their lengths fits.
+    let _bytes = records.joined();
     let mut i = 0;
     let mut start: u64 = 0;
     while let Some(record) = records.get(i) {

@@ -11,7 +11,7 @@ overflow_add-end c =
     let lt = c.in-Some.ensures.some.0 refl in
     let next = start_next records i c.in-Some.record.now c.in-Some.ensures.record lt in
     let most = start_most records (i + 1) in
-    omega (arith, next, most, c.loop-record.invariant.1, ap length c.joined-whole.ensures.bytes)
+    omega (arith, next, most, c.loop-record.invariant.1, ap length c.joined-bytes.ensures.bytes, c.joined-bytes.ensures.few)
 
 pub loop-record-preserved : goal.loop-record-preserved
 loop-record-preserved c =
