@@ -1,13 +1,18 @@
-ghost use Rattle.std.specs.Prelude.{◌≡◌, IfOk};
-ghost use Rattle.client_session.specs.Tables.{Answers};
+ghost use Rattle.std.specs.Prelude.{◌≡◌, ◌+◌, ℕ, List, [], IfOk};
+ghost use Rattle.srv_edge.specs.declared.kind.TheConstants as kinds;
+ghost use Rattle.srv_edge.specs.Frames.{frame_bytes};
+ghost use Rattle.request_frames.specs.Lists.{IsRecordList};
+ghost use Rattle.client_session.specs.Tables.{Adds, AddsList, Answers, kind_of_list};
 ghost use Rattle.table_model.specs.Tables.{empty_tables};
 
-use crate::replies::{write_bytes, write_counts, write_index, write_reply};
+use crate::replies::{
+    no_item, no_name, no_type, part_for, write_bytes, write_counts, write_hello, write_index, write_reply,
+};
 use leaf_grammar::Space;
 use names_table::NamesTable;
 use record_table::RecordTable;
-use request_frames::{Desk, Request, VERSION};
-use srv_edge::{Limits, Piece, Refusal, half, kind, space};
+use request_frames::{Desk, Head, Request, next_record, push_part};
+use srv_edge::{Limits, Piece, Refusal, kind};
 use std::alloc::{AllocError, Global};
 use std::hash::RandomState;
 use std::marker::Model;
@@ -40,6 +45,48 @@ impl Bare {
             names: NamesTable::new(alloc, keys, limits, 1)?,
         })
     }
+
+    // Adds a record to the table of its space.
+    fn add(&mut self, space: Space, bytes: &[u8]) -> Result<u32, Refusal>
+        ensures { Adds space self.old bytes.now result self.new }
+    {
+        let types = self.types.len();
+        let items = self.items.len();
+        match space {
+            Space::Types => add_record(space, &mut self.types, types, items, bytes),
+            Space::Items => add_record(space, &mut self.items, types, items, bytes),
+        }
+    }
+
+    // Adds the records of a list one after another, and replies with the part of each.
+    fn add_list(&mut self, head: Head, space: Space, list: &[u8], out: &mut Piece)
+        requires list { IsRecordList list.now }
+        requires empty { out.old ≡ [] }
+        ensures { (parts : List ℕ)
+            × (out.new ≡ frame_bytes (record {
+              head = head;
+              message = record { kind = kind_of_list space + kinds.REPLY; body = parts };
+            }))
+            × AddsList space self.old list.now parts self.new }
+    {
+        write_reply(head, list_kind(space), &[], out);
+        let mut at = 0;
+        while let Some(record) = next_record(list, at) {
+            let part = part_for(self.add(space, record));
+            push_part(&part, out);
+            at += record.len();
+        }
+    }
+}
+
+// The kind of a request to add a list of records of a space.
+fn list_kind(space: Space) -> u8
+    ensures { result ≡ kind_of_list space }
+{
+    match space {
+        Space::Types => kind::ADD_TYPES,
+        Space::Items => kind::ADD_ITEMS,
+    }
 }
 
 impl Desk for Bare {
@@ -47,47 +94,33 @@ impl Desk for Bare {
 
     ghost answers = { Answers };
 
-    fn answer(&mut self, _ground: &(), request: &Request, out: &mut Piece) {
-        let types = self.types.len();
-        let items = self.items.len();
+    fn answer(&mut self, _ground: &(), head: Head, request: &Request, out: &mut Piece) {
         match *request {
-            Request::Hello(_) => write_reply(kind::HELLO, &half(VERSION), out),
+            Request::Hello(version) => write_hello(head, version, out),
             Request::AddType(bytes) => {
-                let answer = add_record(Space::Types, &mut self.types, types, items, bytes);
-                write_index(kind::ADD_TYPE, answer, out);
+                write_index(head, kind::ADD_TYPE, self.add(Space::Types, bytes), out);
             }
             Request::AddItem(bytes) => {
-                let answer = add_record(Space::Items, &mut self.items, types, items, bytes);
-                write_index(kind::ADD_ITEM, answer, out);
+                write_index(head, kind::ADD_ITEM, self.add(Space::Items, bytes), out);
             }
-            Request::AddName(name) => write_index(
-                kind::ADD_NAME,
-                add_name(&mut self.names, name),
-                out,
-            ),
+            Request::AddName(name) => {
+                write_index(head, kind::ADD_NAME, add_name(&mut self.names, name), out);
+            }
             Request::GetType(index) => {
-                let missing = Refusal::NotGiven {
-                    space: space::TYPES,
-                    index,
-                };
-                write_bytes(kind::GET_TYPE, self.types.get(index), missing, out);
+                write_bytes(head, kind::GET_TYPE, self.types.get(index), no_type(index), out);
             }
             Request::GetItem(index) => {
-                let missing = Refusal::NotGiven {
-                    space: space::ITEMS,
-                    index,
-                };
-                write_bytes(kind::GET_ITEM, self.items.get(index), missing, out);
+                write_bytes(head, kind::GET_ITEM, self.items.get(index), no_item(index), out);
             }
             Request::GetName(offset) => {
-                let missing = Refusal::NotGiven {
-                    space: space::NAMES,
-                    index: offset,
-                };
-                write_bytes(kind::GET_NAME, self.names.get(offset), missing, out);
+                write_bytes(head, kind::GET_NAME, self.names.get(offset), no_name(offset), out);
             }
-            Request::Counts => write_counts(types, items, self.names.len(), out),
-            Request::Bye => write_reply(kind::BYE, &[], out),
+            Request::Counts => {
+                write_counts(head, self.types.len(), self.items.len(), self.names.len(), out);
+            }
+            Request::Bye => write_reply(head, kind::BYE, &[], out),
+            Request::AddTypes(list) => self.add_list(head, Space::Types, list, out),
+            Request::AddItems(list) => self.add_list(head, Space::Items, list, out),
         }
     }
 }

@@ -1,5 +1,5 @@
 -- One turn on a link, by the calls that make it.
-use Rattle.std.proofs.Common.{◌≡◌, ◌≢◌, ◌++◌, ◌⊎◌, ℕ, IsTrue, List, [], Option, None, Some, sym, ap, ◌∙◌, inl, inr, ⊎_elim, arith}
+use Rattle.std.proofs.Common.{◌≡◌, ◌≢◌, ◌++◌, ◌⊎◌, ℕ, IsTrue, List, [], sym, ap, ◌∙◌, inl, inr, ⊎_elim, arith}
 use Rattle.std.proofs.lemmas.List.{append-nil}
 use Rattle.srv_edge.specs.declared.failed.SessionEnd.{SessionEnd}
 use Rattle.srv_edge.specs.declared.failed.SessionEnd.TheVariants.{Bye, Ended, CutShort, BadLength, ReadFault, WriteFault, TooLong}
@@ -7,33 +7,35 @@ use Rattle.srv_edge.specs.declared.sink.Sink as sink
 use Rattle.srv_edge.specs.declared.source.Source as source
 use Rattle.srv_edge.specs.Exchange.{CallsSink, CallsSource, CameFrom}
 use Rattle.request_frames.specs.declared.desk.Desk as desk
+use Rattle.request_frames.specs.declared.serve.Turn.{Turn}
+use Rattle.request_frames.specs.declared.serve.Turn.TheVariants.{GoesOn, Ends}
 use Rattle.request_frames.specs.Next.{EndsInput, IsAnswered}
 use Rattle.request_frames.specs.Session.{IsInputEnd, IsSession}
 use Rattle.request_frames.specs.Serving.{SendsTurn, TakesTurn, answers_with}
 
 -- an answered frame is no end of the input, and no fault of the source
-no_end : (turn : Option SessionEnd) → IsAnswered turn → EndsInput turn → ⊥
-no_end None is ends = ends
-no_end (Some Bye) is ends = ends
-no_end (Some Ended) is ends = is
-no_end (Some CutShort) is ends = is
-no_end (Some BadLength) is ends = is
-no_end (Some ReadFault) is ends = is
-no_end (Some WriteFault) is ends = ends
-no_end (Some TooLong) is ends = is
+no_end : (turn : Turn) → IsAnswered turn → EndsInput turn → ⊥
+no_end (GoesOn version) is ends = ends
+no_end (Ends Bye) is ends = ends
+no_end (Ends Ended) is ends = is
+no_end (Ends CutShort) is ends = is
+no_end (Ends BadLength) is ends = is
+no_end (Ends ReadFault) is ends = is
+no_end (Ends WriteFault) is ends = ends
+no_end (Ends TooLong) is ends = is
 
-no_read_fault : (turn : Option SessionEnd) → IsAnswered turn → turn ≡ Some ReadFault → ⊥
-no_read_fault None is e = cc
-no_read_fault (Some Bye) is e = cc
-no_read_fault (Some Ended) is e = is
-no_read_fault (Some CutShort) is e = is
-no_read_fault (Some BadLength) is e = is
-no_read_fault (Some ReadFault) is e = is
-no_read_fault (Some WriteFault) is e = cc
-no_read_fault (Some TooLong) is e = is
+no_read_fault : (turn : Turn) → IsAnswered turn → turn ≡ Ends ReadFault → ⊥
+no_read_fault (GoesOn version) is e = cc
+no_read_fault (Ends Bye) is e = cc
+no_read_fault (Ends Ended) is e = is
+no_read_fault (Ends CutShort) is e = is
+no_read_fault (Ends BadLength) is e = is
+no_read_fault (Ends ReadFault) is e = is
+no_read_fault (Ends WriteFault) is e = cc
+no_read_fault (Ends TooLong) is e = is
 
-unsome : {end end' : SessionEnd} → Some end ≡ Some end' → end ≡ end'
-unsome {end} {end'} e = cc
+ends_so : {end end' : SessionEnd} → Ends end ≡ Ends end' → end ≡ end'
+ends_so {end} {end'} e = cc
 
 -- a refusal of a length
 refusal_no_read : {end : SessionEnd} → (end ≡ WriteFault) ⊎ (end ≡ BadLength) → end ≡ ReadFault → ⊥
@@ -59,25 +61,25 @@ module _ {L K G : Type 0} (s : source.Ghosts L) (k : sink.Ghosts L) (d : desk.Gh
   kept_faults {P} {link} {link'} calls = sym (sink_faults_is link') ∙ ap (λ t. t.faults) calls.beside ∙ sink_faults_is link
 
   -- the session ended with what was read
-  pub read_turn : {P : Type 0} {limit : ℕ} {link link' : L} {desk : K} {frame : List ℕ} (end : SessionEnd) → CallsSource s P link link' → CameFrom s frame link link'
-      → IsSession (answers_with d) limit desk desk frame [] end → (IsInputEnd end → IsTrue s.tells → s.left link' ≡ []) → (end ≡ ReadFault → P) → end ≢ WriteFault
-      → TakesTurn s k d limit frame link link' desk desk (Some end)
-  read_turn {P} {limit} {link} {link'} {desk} {frame} end calls came session none read no_write = record {
+  pub read_turn : {P : Type 0} {version limit : ℕ} {link link' : L} {desk : K} {frame : List ℕ} (end : SessionEnd) → CallsSource s P link link' → CameFrom s frame link link'
+      → IsSession (answers_with d) version limit desk desk frame [] end → (IsInputEnd end → IsTrue s.tells → s.left link' ≡ []) → (end ≡ ReadFault → P) → end ≢ WriteFault
+      → TakesTurn s k d version limit frame link link' desk desk (Ends end)
+  read_turn {P} {version} {limit} {link} {link'} {desk} {frame} end calls came session none read no_write = record {
     sent = ([], session, λ tells. kept calls ∙ sym (append-nil (k.taken link)));
     came = came;
     none_left = none;
     loans = calls.loans;
-    reads = record { never_falls = calls.cause.never_falls; rose = λ e. calls.cause.rose (read (unsome e)) };
-    writes = record { never_falls = omega (arith, kept_faults calls); rose = λ e. absurd (no_write (unsome e)) };
+    reads = record { never_falls = calls.cause.never_falls; rose = λ e. calls.cause.rose (read (ends_so e)) };
+    writes = record { never_falls = omega (arith, kept_faults calls); rose = λ e. absurd (no_write (ends_so e)) };
   }
 
   module _ (given_is : (l : L) → (k.beside l).bytes ≡ s.given l) (left_is : (l : L) → (k.beside l).rest ≡ s.left l)
       (source_faults_is : (l : L) → (k.beside l).faults ≡ s.faults l) (loans_are : (l : L) → k.loans l ≡ s.loans l) where
     -- something was sent behind what was read
-    pub sent_turn : {P Q : Type 0} {limit : ℕ} {link mid link' : L} {old new : K} {frame : List ℕ} (turn : Option SessionEnd) → CallsSource s P link mid → CameFrom s frame link mid
-        → CallsSink k Q mid link' → SendsTurn k d limit frame mid link' old new turn → (EndsInput turn → ⊥) → (turn ≡ Some ReadFault → ⊥) → (turn ≡ Some WriteFault → Q)
-        → TakesTurn s k d limit frame link link' old new turn
-    sent_turn {P} {Q} {limit} {link} {mid} {link'} {old} {new} {frame} turn calls came gives sends no_end no_read write =
+    pub sent_turn : {P Q : Type 0} {version limit : ℕ} {link mid link' : L} {old new : K} {frame : List ℕ} (turn : Turn) → CallsSource s P link mid → CameFrom s frame link mid
+        → CallsSink k Q mid link' → SendsTurn k d version limit frame mid link' old new turn → (EndsInput turn → ⊥) → (turn ≡ Ends ReadFault → ⊥) → (turn ≡ Ends WriteFault → Q)
+        → TakesTurn s k d version limit frame link link' old new turn
+    sent_turn {P} {Q} {version} {limit} {link} {mid} {link'} {old} {new} {frame} turn calls came gives sends no_end no_read write =
         let given : s.given link' ≡ s.given mid = sym (given_is link') ∙ ap (λ t. t.bytes) gives.beside ∙ given_is mid in
         let left : s.left link' ≡ s.left mid = sym (left_is link') ∙ ap (λ t. t.rest) gives.beside ∙ left_is mid in
         let faults : s.faults link' ≡ s.faults mid = sym (source_faults_is link') ∙ ap (λ t. t.faults) gives.beside ∙ source_faults_is mid in
@@ -92,14 +94,14 @@ module _ {L K G : Type 0} (s : source.Ghosts L) (k : sink.Ghosts L) (d : desk.Gh
         }
 
     -- a frame was answered
-    pub answered_turn : {P : Type 0} {limit : ℕ} {link mid link' : L} {old new : K} {frame : List ℕ} (turn : Option SessionEnd) → CallsSource s P link mid → CameFrom s frame link mid
-        → CallsSink k (turn ≡ Some WriteFault) mid link' → SendsTurn k d limit frame mid link' old new turn → IsAnswered turn
-        → TakesTurn s k d limit frame link link' old new turn
+    pub answered_turn : {P : Type 0} {version limit : ℕ} {link mid link' : L} {old new : K} {frame : List ℕ} (turn : Turn) → CallsSource s P link mid → CameFrom s frame link mid
+        → CallsSink k (turn ≡ Ends WriteFault) mid link' → SendsTurn k d version limit frame mid link' old new turn → IsAnswered turn
+        → TakesTurn s k d version limit frame link link' old new turn
     answered_turn turn calls came gives sends answered = sent_turn turn calls came gives sends (no_end turn answered) (no_read_fault turn answered) (λ e. e)
 
     -- a bad length was refused
-    pub refused_turn : {P : Type 0} {limit : ℕ} {link mid link' : L} {desk : K} {frame : List ℕ} (end : SessionEnd) → CallsSource s P link mid → CameFrom s frame link mid
-        → CallsSink k (end ≡ WriteFault) mid link' → SendsTurn k d limit frame mid link' desk desk (Some end) → (end ≡ WriteFault) ⊎ (end ≡ BadLength)
-        → TakesTurn s k d limit frame link link' desk desk (Some end)
+    pub refused_turn : {P : Type 0} {version limit : ℕ} {link mid link' : L} {desk : K} {frame : List ℕ} (end : SessionEnd) → CallsSource s P link mid → CameFrom s frame link mid
+        → CallsSink k (end ≡ WriteFault) mid link' → SendsTurn k d version limit frame mid link' desk desk (Ends end) → (end ≡ WriteFault) ⊎ (end ≡ BadLength)
+        → TakesTurn s k d version limit frame link link' desk desk (Ends end)
     refused_turn end calls came gives sends ends =
-        sent_turn (Some end) calls came gives sends (refusal_no_end end ends) (λ e. refusal_no_read ends (unsome e)) (λ e. unsome e)
+        sent_turn (Ends end) calls came gives sends (refusal_no_end end ends) (λ e. refusal_no_read ends (ends_so e)) (λ e. ends_so e)

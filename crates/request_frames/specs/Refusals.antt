@@ -1,14 +1,14 @@
--- Refusals as frames: a code and two numbers.
+-- Refusals as messages: a code and two numbers.
 use Rattle.srv_edge.specs.declared.code.TheConstants as code
-use Rattle.srv_edge.specs.Frames.{Frame, refused}
+use Rattle.srv_edge.specs.Frames.{Message, refused}
 use Rattle.srv_edge.specs.declared.failed.Refusal.{Refusal}
 use Rattle.srv_edge.specs.declared.failed.Refusal.TheVariants.{Malformed, NotGiven, Full, Underway, DiskFault, OutOfMemory}
 
--- the frame of a refusal
-abbrev pub refusal_frame : Refusal → Frame
-refusal_frame (Malformed at what) = refused code.MALFORMED at what
-refusal_frame (NotGiven space index) = refused code.NOT_GIVEN space index
-refusal_frame (Full which needed) = refused code.FULL which needed
-refusal_frame OutOfMemory = refused code.OUT_OF_MEMORY 0 0
-refusal_frame (DiskFault number) = refused code.DISK_FAULT number 0
-refusal_frame (Underway number) = refused code.UNDERWAY number 0
+-- the message of a refusal
+abbrev pub refusal_message : Refusal → Message
+refusal_message (Malformed at what) = refused code.MALFORMED at what
+refusal_message (NotGiven space index) = refused code.NOT_GIVEN space index
+refusal_message (Full which needed) = refused code.FULL which needed
+refusal_message OutOfMemory = refused code.OUT_OF_MEMORY 0 0
+refusal_message (DiskFault number) = refused code.DISK_FAULT number 0
+refusal_message (Underway number) = refused code.UNDERWAY number 0

@@ -1,11 +1,14 @@
--- Requests and replies as frames: the table of kinds.
-use Rattle.std.specs.Prelude.{◌≡◌, ◌≢◌, ◌≤◌, ◌<◌, ◌^◌, ◌⊎◌, ⊤, ℕ, List, [], length, drop, slice_index, All}
+-- Requests as messages: the table of kinds, in both versions.
+use Rattle.std.specs.Prelude.{◌≡◌, ◌≢◌, ◌≤◌, ◌<◌, ◌==◌, ◌+◌, ◌^◌, ◌⊎◌, ⊤, ℕ, List, [], length, drop, slice_index, if◌then◌else◌}
+use Rattle.byteorder.specs.Endian.{little_number}
+use Rattle.srv_edge.specs.declared.head.Head.{Head}
 use Rattle.srv_edge.specs.declared.kind.TheConstants as kinds
 use Rattle.srv_edge.specs.declared.limit.TheConstants.{RECORD_BYTES}
 use Rattle.srv_edge.specs.Name.{IsName}
-use Rattle.srv_edge.specs.Frames.{Frame, half_bytes, word_bytes}
+use Rattle.srv_edge.specs.Frames.{Frame, Message, half_bytes, tag_size, word_bytes}
+use Rattle.request_frames.specs.Lists.{IsRecordList}
 use Rattle.request_frames.specs.declared.request.Request.{Request}
-use Rattle.request_frames.specs.declared.request.Request.TheVariants.{Hello, AddType, AddItem, AddName, GetType, GetItem, GetName, Counts, Bye}
+use Rattle.request_frames.specs.declared.request.Request.TheVariants.{Hello, AddType, AddItem, AddName, GetType, GetItem, GetName, Counts, Bye, AddTypes, AddItems}
 
 -- what a frame asks
 pub data Asked : Type 0 where
@@ -18,6 +21,8 @@ pub data Asked : Type 0 where
   get_name : ℕ → Asked
   counts : Asked
   bye : Asked
+  add_types : List ℕ → Asked
+  add_items : List ℕ → Asked
 
 -- what a request of the program asks
 abbrev pub asked : Request → Asked
@@ -30,32 +35,38 @@ asked (GetItem index) = get_item index
 asked (GetName offset) = get_name offset
 asked Counts = counts
 asked Bye = bye
+asked (AddTypes list) = add_types list.now
+asked (AddItems list) = add_items list.now
 
--- the frame of a request
-abbrev pub request_frame : Asked → Frame
-request_frame (hello version) = record { kind = kinds.HELLO; body = half_bytes version }
-request_frame (add_type r) = record { kind = kinds.ADD_TYPE; body = r }
-request_frame (add_item r) = record { kind = kinds.ADD_ITEM; body = r }
-request_frame (add_name name) = record { kind = kinds.ADD_NAME; body = name }
-request_frame (get_type index) = record { kind = kinds.GET_TYPE; body = word_bytes index }
-request_frame (get_item index) = record { kind = kinds.GET_ITEM; body = word_bytes index }
-request_frame (get_name offset) = record { kind = kinds.GET_NAME; body = word_bytes offset }
-request_frame counts = record { kind = kinds.COUNTS; body = [] }
-request_frame bye = record { kind = kinds.BYE; body = [] }
+-- the message of a request
+abbrev pub request_message : Asked → Message
+request_message (hello version) = record { kind = kinds.HELLO; body = half_bytes version }
+request_message (add_type r) = record { kind = kinds.ADD_TYPE; body = r }
+request_message (add_item r) = record { kind = kinds.ADD_ITEM; body = r }
+request_message (add_name name) = record { kind = kinds.ADD_NAME; body = name }
+request_message (get_type index) = record { kind = kinds.GET_TYPE; body = word_bytes index }
+request_message (get_item index) = record { kind = kinds.GET_ITEM; body = word_bytes index }
+request_message (get_name offset) = record { kind = kinds.GET_NAME; body = word_bytes offset }
+request_message counts = record { kind = kinds.COUNTS; body = [] }
+request_message bye = record { kind = kinds.BYE; body = [] }
+request_message (add_types list) = record { kind = kinds.ADD_TYPES; body = list }
+request_message (add_items list) = record { kind = kinds.ADD_ITEMS; body = list }
 
--- what may be asked: a version of at least 1, a name, numbers of 32 bits
-abbrev pub IsAsked : Asked → Type 0
-IsAsked (hello version) = (1 ≤ version) × (version < 2 ^ 16)
-IsAsked (add_type r) = ⊤
-IsAsked (add_item r) = ⊤
-IsAsked (add_name name) = IsName name
-IsAsked (get_type index) = index < 2 ^ 32
-IsAsked (get_item index) = index < 2 ^ 32
-IsAsked (get_name offset) = offset < 2 ^ 32
-IsAsked counts = ⊤
-IsAsked bye = ⊤
+-- what may be asked in a version: a version of at least 1, a name, numbers of 32 bits, and in version 2 lists of records
+abbrev pub IsAsked : ℕ → Asked → Type 0
+IsAsked version (hello v) = (1 ≤ v) × (v < 2 ^ 16)
+IsAsked version (add_type r) = ⊤
+IsAsked version (add_item r) = ⊤
+IsAsked version (add_name name) = IsName name
+IsAsked version (get_type index) = index < 2 ^ 32
+IsAsked version (get_item index) = index < 2 ^ 32
+IsAsked version (get_name offset) = offset < 2 ^ 32
+IsAsked version counts = ⊤
+IsAsked version bye = ⊤
+IsAsked version (add_types list) = (version ≡ 2) × IsRecordList list
+IsAsked version (add_items list) = (version ≡ 2) × IsRecordList list
 
--- a request whose frame a session takes: a record has at most 65,536 bytes
+-- a request whose frame a session takes: a record, and a list of them, has at most 65,536 bytes
 abbrev pub FitsFrame : Asked → Type 0
 FitsFrame (hello version) = ⊤
 FitsFrame (add_type r) = length r ≤ RECORD_BYTES
@@ -66,16 +77,29 @@ FitsFrame (get_item index) = ⊤
 FitsFrame (get_name offset) = ⊤
 FitsFrame counts = ⊤
 FitsFrame bye = ⊤
+FitsFrame (add_types list) = length list ≤ RECORD_BYTES
+FitsFrame (add_items list) = length list ≤ RECORD_BYTES
 
--- the kinds of requests
-abbrev pub IsKind : ℕ → Type 0
-IsKind kind = (kind ≡ kinds.HELLO) ⊎ (kind ≡ kinds.ADD_TYPE) ⊎ (kind ≡ kinds.ADD_ITEM) ⊎ (kind ≡ kinds.ADD_NAME) ⊎ (kind ≡ kinds.GET_TYPE)
+-- the kinds of requests of both versions
+abbrev pub IsCommonKind : ℕ → Type 0
+IsCommonKind kind = (kind ≡ kinds.HELLO) ⊎ (kind ≡ kinds.ADD_TYPE) ⊎ (kind ≡ kinds.ADD_ITEM) ⊎ (kind ≡ kinds.ADD_NAME) ⊎ (kind ≡ kinds.GET_TYPE)
     ⊎ (kind ≡ kinds.GET_ITEM) ⊎ (kind ≡ kinds.GET_NAME) ⊎ (kind ≡ kinds.COUNTS) ⊎ (kind ≡ kinds.BYE)
 
--- a kind and a body that lie one behind the other
-abbrev pub frame_of : List ℕ → Frame
-frame_of bytes = record { kind = slice_index bytes 0; body = drop 1 bytes }
+-- the kinds of requests of a version
+abbrev pub IsKind : ℕ → ℕ → Type 0
+IsKind version kind = IsCommonKind kind ⊎ ((version ≡ 2) × ((kind ≡ kinds.ADD_TYPES) ⊎ (kind ≡ kinds.ADD_ITEMS)))
 
--- a frame whose body is none that its kind has
-abbrev pub IsBadBody : Frame → Type 0
-IsBadBody f = IsKind f.kind × ((a : Asked) → IsAsked a → request_frame a ≢ f)
+-- the head of a frame of a version, whose kind, tag and body lie one behind the other
+abbrev pub head_in : ℕ → List ℕ → Head
+head_in version bytes = record { version = version; tag = if version == 2 then little_number 4 (drop 1 bytes) else 0 }
+
+-- its kind and its body
+abbrev pub message_in : ℕ → List ℕ → Message
+message_in version bytes = record { kind = slice_index bytes 0; body = drop (1 + tag_size version) bytes }
+
+abbrev pub frame_in : ℕ → List ℕ → Frame
+frame_in version bytes = record { head = head_in version bytes; message = message_in version bytes }
+
+-- a message whose body is none that its kind has in a version
+abbrev pub IsBadBody : ℕ → Message → Type 0
+IsBadBody version m = IsKind version m.kind × ((a : Asked) → IsAsked version a → request_message a ≢ m)

@@ -2,7 +2,7 @@
 use Rattle.std.specs.Prelude.{◌≡◌, ◌≤◌, ◌<◌, ◌⊎◌, ⊤, ℕ, List, ◌++◌, length}
 use Rattle.srv_edge.specs.declared.failed.SessionEnd.{SessionEnd}
 use Rattle.srv_edge.specs.declared.failed.SessionEnd.TheVariants.{Bye, Ended, CutShort, BadLength, ReadFault, WriteFault, TooLong}
-use Rattle.srv_edge.specs.Frames.{Frame, Tail, at_end, cut_short, bad_length, at_bye, AreFrames, ReadsNoMore, session_text}
+use Rattle.srv_edge.specs.Frames.{Frame, Message, Tail, at_end, cut_short, bad_length, at_bye, AreFrames, ReadsNoMore, session_text}
 use Rattle.request_frames.specs.Requests.{Asked}
 use Rattle.request_frames.specs.Talk.{IsTalk}
 
@@ -15,7 +15,7 @@ abbrev pub EndsAt : SessionEnd → Tail → ℕ → ℕ → Type 0
 EndsAt Bye tail count limit = tail ≡ at_bye
 EndsAt Ended tail count limit = (tail ≡ at_end) × (count < limit)
 EndsAt CutShort tail count limit = (tail ≡ cut_short) × (count < limit)
-EndsAt BadLength tail count limit = (n : ℕ) × (tail ≡ bad_length n)
+EndsAt BadLength tail count limit = (version n : ℕ) × (tail ≡ bad_length version n)
 EndsAt TooLong tail count limit = IsOpen tail × (count ≡ limit)
 EndsAt ReadFault tail count limit = IsOpen tail × (count < limit)
 EndsAt WriteFault tail count limit = ⊤
@@ -40,13 +40,13 @@ Sends TooLong sent text = sent ≡ text
 Sends ReadFault sent text = sent ≡ text
 Sends WriteFault sent text = (more : List ℕ) × (text ≡ sent ++ more) × (0 < length more)
 
--- A session of a desk: the whole frames of the bytes read are answered in order, one reply each, and the
--- replies are sent, with the refusal of a bad length behind them.
-pub record IsSession {S : Type 0} (answers : S → Asked → Frame → S → Type 0) (limit : ℕ) (old new : S) (read sent : List ℕ) (end : SessionEnd) : Type 0 where
+-- A session of a desk, or the rest of one from a frame of a version on: the whole frames of the bytes read are answered in
+-- order, one reply each, and the replies are sent, with the refusal of a bad length behind them.
+pub record IsSession {S : Type 0} (answers : S → Asked → Message → S → Type 0) (version limit : ℕ) (old new : S) (read sent : List ℕ) (end : SessionEnd) : Type 0 where
   pub frames : List Frame
   pub tail : Tail
   pub replies : List Frame
-  pub stream : AreFrames read frames tail
+  pub stream : AreFrames version read frames tail
   pub no_more : ReadsNoMore read frames tail
   pub bound : length read ≤ limit
   pub talk : IsTalk answers old frames replies new

@@ -5,6 +5,7 @@
 mod client;
 mod desk;
 mod laws;
+mod list;
 mod next;
 mod read;
 mod reply;
@@ -14,11 +15,13 @@ mod serve;
 mod tests;
 mod write;
 
-pub use crate::client::{VERSION, read_reply, write_request};
+pub use crate::client::{read_reply, write_request};
 pub use crate::desk::Desk;
-pub use crate::laws::one_request_a_frame;
-pub use crate::read::read_request;
-pub use crate::reply::Reply;
+pub use crate::laws::{one_list_of_records, one_request_a_frame};
+pub use crate::list::{next_part, next_record};
+pub use crate::read::{head_of, read_request};
+pub use crate::reply::{Part, Reply};
 pub use crate::request::{BadFrame, Request};
 pub use crate::serve::serve_link;
-pub use crate::write::{write_bad, write_frame, write_refusal};
+pub use crate::write::{part_of, push_body, push_part, write_bad, write_frame, write_refusal};
+pub use srv_edge::Head;

@@ -1,5 +1,6 @@
-ghost use Rattle.std.specs.Prelude.{◌≡◌, ◌≤◌, ◌+◌, ◌⊎◌, ◌++◌, ℕ, List, [], length, IsTrue};
+ghost use Rattle.std.specs.Prelude.{◌≡◌, ◌≤◌, ◌+◌, ◌⊎◌, ◌↔◌, ◌++◌, ℕ, List, [], length, IsTrue};
 ghost use Rattle.srv_edge.specs.Exchange.{CallsSource, CameFrom};
+ghost use Rattle.srv_edge.specs.Frames.{IsLength, IsVersion};
 ghost use Rattle.srv_edge.specs.declared.piece.TheConstants.{PIECE_BYTES};
 ghost use Rattle.request_frames.specs.Next.{IsFilled, IsNext};
 
@@ -27,9 +28,15 @@ pub(crate) enum Filled {
 }
 
 /// Reads the four bytes of a length and then as many as it says, into an empty piece.
-pub(crate) fn next_frame<S: Source>(source: &mut S, limit: u64, frame: &mut Piece) -> Next
-    requires { frame.old ≡ [] }
-    ensures next { IsNext result frame.new limit }
+pub(crate) fn next_frame<S: Source>(
+    source: &mut S,
+    version: u8,
+    limit: u64,
+    frame: &mut Piece,
+) -> Next
+    requires version { IsVersion version }
+    requires empty { frame.old ≡ [] }
+    ensures next { IsNext result version frame.new limit }
     ensures came { CameFrom S.Source frame.new source.old source.new }
     ensures none_left { (result ≡ Next.Ended) ⊎ (result ≡ Next.CutShort) → IsTrue S.tells
         → S.left source.new ≡ [] }
@@ -43,7 +50,7 @@ pub(crate) fn next_frame<S: Source>(source: &mut S, limit: u64, frame: &mut Piec
         Filled::Failed => return Next::ReadFault,
     }
     let length = word_at(frame.bytes());
-    if length == 0 || length > FRAME_BYTES {
+    if !is_length(version, length) {
         return Next::BadLength(length);
     }
     match fill(source, frame, 4 + length as usize, limit) {
@@ -52,6 +59,18 @@ pub(crate) fn next_frame<S: Source>(source: &mut S, limit: u64, frame: &mut Piec
         Filled::AtLimit => Next::TooLong,
         Filled::Failed => Next::ReadFault,
     }
+}
+
+// Whether a request has such a length in a version.
+fn is_length(version: u8, length: u32) -> bool
+    ensures { IsTrue result ↔ IsLength version length }
+{
+    let tag = if version == 2 {
+        4
+    } else {
+        0
+    };
+    length > tag && length <= FRAME_BYTES + tag
 }
 
 // Takes bytes until the piece has as many as are wanted. It never has more than the limit.

@@ -14,12 +14,17 @@ pub enum Request<'a> {
     GetName(u32),
     Counts,
     Bye,
+    /// Types' records, one after another, each with its length of two bytes. Of version 2 alone, as
+    /// the next.
+    AddTypes(&'a [u8]),
+    /// Items' records.
+    AddItems(&'a [u8]),
 }
 
 /// Why a frame is no request.
 #[derive(Clone, Copy, Debug, PartialEq, Eq)]
 pub enum BadFrame {
-    /// There are no requests of its kind.
+    /// There are no requests of its kind in the version.
     Kind,
     /// Requests of its kind have another body.
     Body,

@@ -1,62 +1,91 @@
-ghost use Rattle.std.specs.Prelude.{◌≡◌, ◌≤◌, ◌⊎◌, ◌↔◌, ℕ, List, [], length, drop, IsTrue, Some};
-ghost use Rattle.srv_edge.specs.declared.code.TheConstants as codes;
-ghost use Rattle.srv_edge.specs.declared.limit.TheConstants.{FRAME_BYTES};
+ghost use Rattle.std.specs.Prelude.{◌≡◌, ◌≤◌, ◌⊎◌, ◌++◌, ℕ, List, [], length};
 ghost use Rattle.srv_edge.specs.Count.{Rose};
 ghost use Rattle.srv_edge.specs.Exchange.{CallsSink, WentTo};
-ghost use Rattle.srv_edge.specs.Frames.{IsBye, IsLength, frame_bytes, length_of, refused};
-ghost use Rattle.request_frames.specs.Requests.{frame_of};
+ghost use Rattle.srv_edge.specs.Frames.{IsFrame, IsLength, IsVersion, frame_bytes, refused_length, spoken, word_bytes};
+ghost use Rattle.request_frames.specs.Requests.{asked, frame_in};
 ghost use Rattle.request_frames.specs.Session.{Sends};
 ghost use Rattle.request_frames.specs.Serving.{EndsByInput, PutsAnswer, SendsTurn, Serves, TakesTurn};
-ghost use Rattle.request_frames.specs.Next.{IsAnswered, IsWholeFrame};
+ghost use Rattle.request_frames.specs.Next.{Follows, IsAnswered, IsWholeFrame, turn_behind};
 
 use crate::desk::Desk;
 use crate::next::{Next, next_frame};
-use crate::read::read_request;
+use crate::read::{behind, body_of, head_of, read_request};
 use crate::request::{BadFrame, Request};
 use crate::write::write_bad;
-use srv_edge::{Link, Piece, Room, SessionEnd, code, give_all};
+use srv_edge::{Head, Link, Piece, Room, SessionEnd, code, give_all};
 
-// Puts the reply to a frame, whose kind and body are given, into an empty piece. Answers whether it
-// was a Bye.
-fn answer_frame<K: Desk>(ground: &K::Ground, desk: &mut K, frame: &[u8], out: &mut Piece) -> bool
-    requires some { 1 ≤ length frame.now }
-    requires few { length frame.now ≤ FRAME_BYTES }
-    requires empty { out.old ≡ [] }
-    ensures reply { PutsAnswer K.Desk desk.old (frame_of frame.now) out.new desk.new }
-    ensures bye { IsTrue result ↔ IsBye (frame_of frame.now) }
+/// What follows one turn of a session.
+#[derive(Clone, Copy, Debug, PartialEq, Eq)]
+pub(crate) enum Turn {
+    /// Frames of this version.
+    GoesOn(u8),
+    Ends(SessionEnd),
+}
+
+// The version that is spoken where this one is asked for.
+fn spoken_version(asked: u16) -> u8
+    ensures { result ≡ spoken asked }
 {
-    match read_request(frame) {
+    if asked >= 2 {
+        2
+    } else {
+        asked as u8
+    }
+}
+
+// What follows a request of a version.
+fn next_turn(version: u8, request: &Request) -> Turn
+    ensures { result ≡ turn_behind version (asked request.now) }
+{
+    match *request {
+        Request::Hello(asked) => Turn::GoesOn(spoken_version(asked)),
+        Request::Bye => Turn::Ends(SessionEnd::Bye),
+        _ => Turn::GoesOn(version),
+    }
+}
+
+// Puts the reply to a frame, whose kind, tag and body are given, into an empty piece.
+fn answer_frame<K: Desk>(
+    ground: &K::Ground,
+    desk: &mut K,
+    version: u8,
+    frame: &[u8],
+    out: &mut Piece,
+) -> Turn
+    requires version { IsVersion version }
+    requires is_length { IsLength version (length frame.now) }
+    requires empty { out.old ≡ [] }
+    ensures is_frame { IsFrame version (frame_in version frame.now) }
+    ensures spelled { frame_bytes (frame_in version frame.now)
+        ≡ word_bytes (length frame.now) ++ frame.now }
+    ensures reply { PutsAnswer K.Desk desk.old (frame_in version frame.now) out.new desk.new }
+    ensures follows { Follows result (frame_in version frame.now) }
+{
+    let head = head_of(version, frame);
+    match read_request(version, frame) {
         Ok(request) => {
-            desk.answer(ground, &request, out);
-            matches!(request, Request::Bye)
+            desk.answer(ground, head, &request, out);
+            next_turn(version, &request)
         }
         Err(BadFrame::Kind) => {
-            write_bad(code::BAD_KIND, u32::from(frame[0]), out);
-            false
+            write_bad(head, code::BAD_KIND, u32::from(frame[0]), out);
+            Turn::GoesOn(version)
         }
         Err(BadFrame::Body) => {
-            write_bad(code::BAD_BODY, frame.len() as u32 - 1, out);
-            false
+            let size = body_of(version, frame).len() as u32;
+            write_bad(head, code::BAD_BODY, size, out);
+            Turn::GoesOn(version)
         }
     }
 }
 
-// The kind and the body of the frame that stands in a piece, behind its length.
-fn kind_and_body(frame: &Piece) -> &[u8]
-    requires { IsWholeFrame frame.now }
-    ensures some { 1 ≤ length result.now }
-    ensures few { length result.now ≤ FRAME_BYTES }
-    ensures frame { frame_bytes (frame_of result.now) ≡ frame.now }
-    ensures is_length { IsLength (length_of (frame_of result.now)) }
+// The kind, the tag and the body of the frame that stands in a piece, behind its length.
+fn behind_length(version: u8, frame: &Piece) -> &[u8]
+    requires { IsWholeFrame version frame.now }
+    ensures is_length { IsLength version (length result.now) }
+    ensures spelled { frame.now ≡ word_bytes (length result.now) ++ result.now }
 {
-    behind_length(frame.bytes())
-}
-
-fn behind_length(bytes: &[u8]) -> &[u8]
-    requires { 4 ≤ length bytes.now }
-    ensures { result.now ≡ drop 4 bytes.now }
-{
-    &bytes[4..]
+    behind(frame.bytes(), 4)
 }
 
 // Answers the frame that stands in a piece, and sends the reply.
@@ -64,36 +93,38 @@ fn send_answer<L: Link, K: Desk>(
     ground: &K::Ground,
     link: &mut L,
     desk: &mut K,
+    version: u8,
     limit: u64,
     frame: &Piece,
     reply: &mut Piece,
-) -> Option<SessionEnd>
-    requires whole { IsWholeFrame frame.now }
+) -> Turn
+    requires version { IsVersion version }
+    requires whole { IsWholeFrame version frame.now }
     requires within { length frame.now ≤ limit }
     requires empty { reply.old ≡ [] }
-    ensures sent { SendsTurn L.Sink K.Desk limit frame.now
+    ensures sent { SendsTurn L.Sink K.Desk version limit frame.now
         link.old link.new desk.old desk.new result }
     ensures ends { IsAnswered result }
-    ensures calls { CallsSink L.Sink (result ≡ Some SessionEnd.WriteFault) link.old link.new }
+    ensures calls { CallsSink L.Sink (result ≡ Turn.Ends SessionEnd.WriteFault)
+        link.old link.new }
 {
-    let bye = answer_frame(ground, desk, kind_and_body(frame), reply);
+    let turn = answer_frame(ground, desk, version, behind_length(version, frame), reply);
     match give_all(link, reply.bytes()) {
-        Err(_) => Some(SessionEnd::WriteFault),
-        Ok(()) if bye => Some(SessionEnd::Bye),
-        Ok(()) => None,
+        Err(_) => Turn::Ends(SessionEnd::WriteFault),
+        Ok(()) => turn,
     }
 }
 
 // Refuses the length that stands in the place of a frame.
-fn send_refusal<L: Link>(link: &mut L, length: u32, reply: &mut Piece) -> SessionEnd
+fn send_refusal<L: Link>(link: &mut L, version: u8, length: u32, reply: &mut Piece) -> SessionEnd
     requires { reply.old ≡ [] }
     ensures sent { (sent : List ℕ)
-        × Sends result sent (frame_bytes (refused codes.BAD_LENGTH length 0))
+        × Sends result sent (frame_bytes (refused_length version length))
         × WentTo L.Sink sent link.old link.new }
     ensures ends { (result ≡ SessionEnd.WriteFault) ⊎ (result ≡ SessionEnd.BadLength) }
     ensures calls { CallsSink L.Sink (result ≡ SessionEnd.WriteFault) link.old link.new }
 {
-    write_bad(code::BAD_LENGTH, length, reply);
+    write_bad(Head { version, tag: 0 }, code::BAD_LENGTH, length, reply);
     match give_all(link, reply.bytes()) {
         Err(_) => SessionEnd::WriteFault,
         Ok(()) => SessionEnd::BadLength,
@@ -105,28 +136,40 @@ fn serve_next<L: Link, K: Desk>(
     ground: &K::Ground,
     link: &mut L,
     desk: &mut K,
+    version: u8,
     limit: u64,
     room: &mut Room,
-) -> Option<SessionEnd>
-    ensures { TakesTurn L.Source L.Sink K.Desk limit room.new.frame
+) -> Turn
+    requires { IsVersion version }
+    ensures { TakesTurn L.Source L.Sink K.Desk version limit room.new.frame
         link.old link.new desk.old desk.new result }
 {
     room.frame.clear();
     room.reply.clear();
-    match next_frame(link, limit, &mut room.frame) {
-        Next::Whole => send_answer(ground, link, desk, limit, &room.frame, &mut room.reply),
-        Next::BadLength(length) => Some(send_refusal(link, length, &mut room.reply)),
-        Next::Ended => Some(SessionEnd::Ended),
-        Next::CutShort => Some(SessionEnd::CutShort),
-        Next::TooLong => Some(SessionEnd::TooLong),
-        Next::ReadFault => Some(SessionEnd::ReadFault),
+    match next_frame(link, version, limit, &mut room.frame) {
+        Next::Whole => send_answer(
+            ground,
+            link,
+            desk,
+            version,
+            limit,
+            &room.frame,
+            &mut room.reply,
+        ),
+        Next::BadLength(length) => {
+            Turn::Ends(send_refusal(link, version, length, &mut room.reply))
+        }
+        Next::Ended => Turn::Ends(SessionEnd::Ended),
+        Next::CutShort => Turn::Ends(SessionEnd::CutShort),
+        Next::TooLong => Turn::Ends(SessionEnd::TooLong),
+        Next::ReadFault => Turn::Ends(SessionEnd::ReadFault),
     }
 }
 
 /// Serves a link until its end: reads the four bytes of a length and as many as it says, has the
-/// desk answer, sends the reply, and so on. It asks a source for the rest of a length or a frame,
-/// of which any front may come, and for no more than `limit` bytes in all. What the room holds does
-/// not matter.
+/// desk answer, sends the reply, and so on. It begins in version 1, and a Hello sets the version of
+/// the frames behind it. It asks a source for the rest of a length or a frame, of which any front
+/// may come, and for no more than `limit` bytes in all. What the room holds does not matter.
 pub fn serve_link<L: Link, K: Desk>(
     ground: &K::Ground,
     link: &mut L,
@@ -141,11 +184,15 @@ pub fn serve_link<L: Link, K: Desk>(
         (Rose (L.Source.faults link.old) (L.Source.faults link.new))
         (Rose (L.Sink.faults link.old) (L.Sink.faults link.new)) result }
 {
+    let mut version = 1;
     let mut budget = limit;
     'frames: loop {
-        match serve_next(ground, link, desk, budget, room) {
-            Some(end) => return end,
-            None => budget -= room.frame.len() as u64,
+        match serve_next(ground, link, desk, version, budget, room) {
+            Turn::Ends(end) => return end,
+            Turn::GoesOn(next) => {
+                version = next;
+                budget -= room.frame.len() as u64;
+            }
         }
     }
 }

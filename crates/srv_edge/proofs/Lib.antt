@@ -9,3 +9,4 @@ mod Replaying
 pub mod Settled
 pub mod Exchanging
 mod Existing
+pub mod Versions

@@ -18,6 +18,11 @@ pub const COUNTS: u8 = 9;
 
 pub const BYE: u8 = 10;
 
+/// Of version 2 alone, as the next.
+pub const ADD_TYPES: u8 = 11;
+
+pub const ADD_ITEMS: u8 = 12;
+
 /// The kind of a reply is that of its request and so much more.
 pub const REPLY: u8 = 128;
 

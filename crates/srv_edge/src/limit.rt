@@ -17,9 +17,11 @@ pub const MOST_CALLS: u32 = 67_108_864;
 /// Blocks of a file.
 pub const MOST_BLOCKS: u32 = 1_048_576;
 
-/// The greatest length of a request: its kind, and a record.
+/// The greatest length of a request beside its tag: its kind, and a record.
 pub const FRAME_BYTES: u32 = 65_537;
 /// The most bytes of a record that is added.
 pub const RECORD_BYTES: u32 = 65_536;
 /// The most bytes of a name.
 pub const NAME_BYTES: u32 = 65_535;
+/// The most records of one list.
+pub const LIST_RECORDS: u32 = 4_096;

@@ -7,8 +7,8 @@ use crate::source::Source;
 use std::alloc::{AllocError, Global};
 use std::marker::Model;
 
-/// The most bytes that a [`Piece`] holds: a frame of the longest reply with its length.
-pub const PIECE_BYTES: usize = 65_542;
+/// The most bytes that a [`Piece`] holds: a frame of the longest reply with its length and its tag.
+pub const PIECE_BYTES: usize = 65_546;
 
 /// A buffer of at most [`PIECE_BYTES`] bytes. Its memory is there from the start.
 #[derive(Drop)]
@@ -24,7 +24,7 @@ impl Model for Piece {
 
     ghost view = { λ p. take p.len p.all.items };
 
-    ghost invariant = { λ p. (p.len ≤ 65542) × (vec_len p.all ≡ 65542) };
+    ghost invariant = { λ p. (p.len ≤ 65546) × (vec_len p.all ≡ 65546) };
 }
 
 impl Piece {

@@ -5,16 +5,19 @@ use Rattle.request_frames.proofs.serve.serve_link.Goals as goal
 pub frames-init : goal.frames-init
 frames-init g c = none_so_far g.L.Source g.L.Sink g.K.Desk c.args.limit c.args.link.now c.args.desk.now
 
+pub serve_next-requires : goal.serve_next-requires
+serve_next-requires g c = c.frames.invariant.is_version
+
 pub frames-preserved : goal.frames-preserved
 frames-preserved g c =
-    let on = goes_on g.L.Source g.L.Sink g.K.Desk c.args.limit c.args.link.now c.args.desk.now c.frames.budget c.frames.link c.serve_next.new.link c.frames.desk c.serve_next.new.desk c.serve_next.new.room.frame c.frames.invariant c.in-None.ensures in
-    subst (λ n. SoFar g.L.Source g.L.Sink g.K.Desk c.args.limit c.args.link.now c.args.desk.now (c.frames.budget - n) c.serve_next.new.link c.serve_next.new.desk) (sym c.len.ensures) on
+    let on = goes_on g.L.Source g.L.Sink g.K.Desk c.args.limit c.args.link.now c.args.desk.now c.frames.version c.frames.budget c.frames.link c.serve_next.new.link c.frames.desk c.serve_next.new.desk c.serve_next.new.room.frame c.frames.invariant c.in-GoesOn.next c.in-GoesOn.ensures in
+    subst (λ n. SoFar g.L.Source g.L.Sink g.K.Desk c.args.limit c.args.link.now c.args.desk.now c.in-GoesOn.next (c.frames.budget - n) c.serve_next.new.link c.serve_next.new.desk) (sym c.len.ensures) on
 
-pub returns-in-Some-clause-serves : goal.returns-in-Some-clause-serves
-returns-in-Some-clause-serves g c =
-    served g.L.Source g.L.Sink g.K.Desk c.args.limit c.args.link.now c.args.desk.now c.frames.budget c.frames.link c.serve_next.new.link c.frames.desk c.serve_next.new.desk c.serve_next.new.room.frame c.frames.invariant c.in-Some.end c.in-Some.ensures
+pub returns-in-Ends-clause-serves : goal.returns-in-Ends-clause-serves
+returns-in-Ends-clause-serves g c =
+    served g.L.Source g.L.Sink g.K.Desk c.args.limit c.args.link.now c.args.desk.now c.frames.version c.frames.budget c.frames.link c.serve_next.new.link c.frames.desk c.serve_next.new.desk c.serve_next.new.room.frame c.frames.invariant c.in-Ends.end c.in-Ends.ensures
 
-pub returns-in-Some-clause-end : goal.returns-in-Some-clause-end
-returns-in-Some-clause-end g c =
-    let s = served g.L.Source g.L.Sink g.K.Desk c.args.limit c.args.link.now c.args.desk.now c.frames.budget c.frames.link c.serve_next.new.link c.frames.desk c.serve_next.new.desk c.serve_next.new.room.frame c.frames.invariant c.in-Some.end c.in-Some.ensures in
-    ends_by_input g.L.Source g.L.Sink g.K.Desk c.args.limit c.args.link.now c.args.desk.now c.serve_next.new.link c.serve_next.new.desk c.in-Some.end s
+pub returns-in-Ends-clause-end : goal.returns-in-Ends-clause-end
+returns-in-Ends-clause-end g c =
+    let s = served g.L.Source g.L.Sink g.K.Desk c.args.limit c.args.link.now c.args.desk.now c.frames.version c.frames.budget c.frames.link c.serve_next.new.link c.frames.desk c.serve_next.new.desk c.serve_next.new.room.frame c.frames.invariant c.in-Ends.end c.in-Ends.ensures in
+    ends_by_input g.L.Source g.L.Sink g.K.Desk c.args.limit c.args.link.now c.args.desk.now c.serve_next.new.link c.serve_next.new.desk c.in-Ends.end s
