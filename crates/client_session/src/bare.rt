@@ -6,7 +6,8 @@ ghost use Rattle.client_session.specs.Tables.{Adds, AddsList, Answers, kind_of_l
 ghost use Rattle.table_model.specs.Tables.{empty_tables};
 
 use crate::replies::{
-    no_item, no_name, no_type, part_for, write_bytes, write_counts, write_hello, write_index, write_reply,
+    no_item, no_name, no_type, part_for, write_bytes, write_counts, write_hello, write_index,
+    write_reply,
 };
 use leaf_grammar::Space;
 use names_table::NamesTable;
@@ -107,16 +108,20 @@ impl Desk for Bare {
                 write_index(head, kind::ADD_NAME, add_name(&mut self.names, name), out);
             }
             Request::GetType(index) => {
-                write_bytes(head, kind::GET_TYPE, self.types.get(index), no_type(index), out);
+                let found = self.types.get(index);
+                write_bytes(head, kind::GET_TYPE, found, no_type(index), out);
             }
             Request::GetItem(index) => {
-                write_bytes(head, kind::GET_ITEM, self.items.get(index), no_item(index), out);
+                let found = self.items.get(index);
+                write_bytes(head, kind::GET_ITEM, found, no_item(index), out);
             }
             Request::GetName(offset) => {
-                write_bytes(head, kind::GET_NAME, self.names.get(offset), no_name(offset), out);
+                let found = self.names.get(offset);
+                write_bytes(head, kind::GET_NAME, found, no_name(offset), out);
             }
             Request::Counts => {
-                write_counts(head, self.types.len(), self.items.len(), self.names.len(), out);
+                let names = self.names.len();
+                write_counts(head, self.types.len(), self.items.len(), names, out);
             }
             Request::Bye => write_reply(head, kind::BYE, &[], out),
             Request::AddTypes(list) => self.add_list(head, Space::Types, list, out),

@@ -33,21 +33,12 @@ pub(crate) fn write_hello(head: Head, version: u16, out: &mut Piece)
       };
     }) }
 {
-    let spoken = if version >= 2 {
-        2
-    } else {
-        version
-    };
+    let spoken = if version >= 2 { 2 } else { version };
     write_reply(head, kind::HELLO, &half(spoken), out);
 }
 
 /// Replies with an index or an offset.
-pub(crate) fn write_index(
-    head: Head,
-    request: u8,
-    answer: Result<u32, Refusal>,
-    out: &mut Piece,
-)
+pub(crate) fn write_index(head: Head, request: u8, answer: Result<u32, Refusal>, out: &mut Piece)
     requires kind { request < kinds.REPLY }
     requires empty { out.old ≡ [] }
     ensures { out.new ≡ frame_bytes (record {

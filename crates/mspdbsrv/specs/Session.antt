@@ -32,7 +32,7 @@ pub record ServesBoth {S K : Type 0} (s : source.Ghosts S) (k : sink.Ghosts K) (
   pub tables : Tables
   pub read : List ℕ
   pub sent : List ℕ
-  pub session : IsSession Answers SESSION_BYTES first_tables tables read sent end
+  pub session : IsSession Answers 1 SESSION_BYTES first_tables tables read sent end
   pub no_disk_faults : disk_faults session.replies ≡ 0
   pub came : CameFrom s read from from'
   pub went : WentTo k sent to to'
@@ -50,5 +50,5 @@ RunsSession s k from from' to to' status = IsEarly status ⊎ ((end : SessionEnd
 abbrev pub CompletesSession : {S K : Type 0} → source.Ghosts S → sink.Ghosts K → S → S → K → K → Status → Type 0
 CompletesSession s k from from' to to' status =
     IsTrue s.tells → ¬ Rose (s.faults from) (s.faults from') → ¬ Rose (k.faults to) (k.faults to')
-    → (frames : List Frame) (tail : Tail) → AreFrames (take SESSION_BYTES (s.left from)) frames tail
+    → (frames : List Frame) (tail : Tail) → AreFrames 1 (take SESSION_BYTES (s.left from)) frames tail
     → (status ≡ OutOfMemory) ⊎ (status ≡ status_of (end_of (nat_le SESSION_BYTES (length (s.left from))) tail))

@@ -6,3 +6,5 @@ mod check_tests;
 pub mod session;
 #[cfg(test)]
 mod session_tests;
+#[cfg(test)]
+mod version_tests;

@@ -5,7 +5,7 @@ use Rattle.srv_edge.specs.Count.{HasCause, RoseBy}
 use Rattle.srv_edge.specs.Frames.{Frame, Message, refused}
 use Rattle.request_frames.specs.Requests.{Asked}
 use Rattle.request_frames.specs.Session.{IsSession}
-use Rattle.request_frames.specs.Talk.{AnswersFrame, AnswersMessage, AnswersWith, IsTalk, disk_faults, is_disk_fault}
+use Rattle.request_frames.specs.Talk.{AnswersMessage, AnswersWith, IsTalk, disk_faults, is_disk_fault}
 
 -- one reply more, of which it may be known that the count rose
 rose_more : (fault : Bool) (n before mid now : ℕ) → HasCause (IsTrue fault) before mid → RoseBy n mid now → RoseBy ((if fault then 1 else 0) + n) before now

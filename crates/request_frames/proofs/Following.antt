@@ -1,11 +1,11 @@
 -- What follows a frame.
-use Rattle.std.proofs.Common.{◌≡◌, ◌≤◌, ◌<◌, ◌==◌, ◌&&◌, ◌^◌, ◌++◌, ℕ, Bool, true, false, nat_le, List, [], length, drop, slice_index, if◌then◌else◌, refl, sym, ap, subst, ◌∙◌, arith}
+use Rattle.std.proofs.Common.{◌≡◌, ◌≤◌, ◌<◌, ◌==◌, ◌&&◌, ◌^◌, ◌++◌, ℕ, Bool, true, false, nat_le, [], length, slice_index, if◌then◌else◌, refl, sym, ap, subst, ◌∙◌, arith}
 use Rattle.std.proofs.lemmas.Bool.Decides.{nat_tests}
 use Rattle.std.proofs.lemmas.List.{append-nil, drop_all}
 use Rattle.byteorder.specs.Endian.{little_number}
 use Rattle.srv_edge.specs.declared.failed.SessionEnd.TheVariants.{Bye, WriteFault}
 use Rattle.srv_edge.specs.declared.head.Head.{Head}
-use Rattle.srv_edge.specs.Frames.{Frame, IsBye, Message, half_bytes, is_hello, spoken, version_behind}
+use Rattle.srv_edge.specs.Frames.{Frame, Message, half_bytes, is_hello, spoken, version_behind}
 use Rattle.srv_edge.proofs.Numbers.{half_bytes-read, length-half_bytes, little_number-half}
 use Rattle.request_frames.specs.declared.serve.Turn.{Turn}
 use Rattle.request_frames.specs.declared.serve.Turn.TheVariants.{GoesOn, Ends}
@@ -61,8 +61,8 @@ pub bad_follows : (version : ℕ) (head : Head) (m : Message) → ((i : ℕ) →
 bad_follows version head m small bad = (
   λ is. bad.1 bye tt (ap (λ k. record { kind = k; body = [] }) (sym is.0) ∙ ap (λ xs. record { kind = m.kind; body = xs }) (sym is.1)),
   not_hello (is_hello m) (spoken (little_number 2 m.body)) head.version (λ is.
-  let h = hello_is m small is in
-  bad.1 (hello (little_number 2 m.body)) (h.some, omega (arith, small 0, small 1)) h.same),
+      let h = hello_is m small is in
+      bad.1 (hello (little_number 2 m.body)) (h.some, omega (arith, small 0, small 1)) h.same),
 )
 
 -- an answered frame is followed by a turn, or by the end of a Bye

@@ -1,12 +1,11 @@
 -- A frame behind its length, and how it is read.
-use Rattle.std.proofs.Common.{◌≡◌, ◌≤◌, ◌<◌, ◌-◌, ◌+◌, ◌^◌, ◌==◌, ◌∷◌, ◌++◌, ℕ, List, [], length, drop, slice_index, if◌then◌else◌, refl, sym, ap, subst, ◌∙◌, inl, inr, ⊎_elim, arith, append_assoc, length-append}
+use Rattle.std.proofs.Common.{◌≡◌, ◌≤◌, ◌<◌, ◌-◌, ◌+◌, ◌^◌, ◌∷◌, ◌++◌, ℕ, List, [], length, drop, refl, sym, ap, subst, ◌∙◌, ⊎_elim, arith, append_assoc, length-append}
 use Rattle.std.proofs.lemmas.List.{drop_at, length-drop}
 use Rattle.byteorder.specs.Endian.{little_number}
-use Rattle.srv_edge.specs.declared.head.Head.{Head}
-use Rattle.srv_edge.specs.Frames.{Frame, IsFrame, IsHead, IsLength, IsVersion, Message, frame_bytes, length_of, tag_bytes, tag_size, word_bytes}
+use Rattle.srv_edge.specs.Frames.{Frame, IsFrame, IsHead, IsLength, frame_bytes, length_of, tag_bytes, tag_size, word_bytes}
 use Rattle.srv_edge.proofs.Numbers.{length-word_bytes, little_number-word}
 use Rattle.srv_edge.proofs.Streams.{length-tag_bytes}
-use Rattle.request_frames.specs.Requests.{frame_in, head_in, message_in}
+use Rattle.request_frames.specs.Requests.{frame_in, head_in}
 
 -- what stands behind a frame's length: its kind, its tag, its body
 abbrev pub spelled_behind : Frame → List ℕ

@@ -1,7 +1,7 @@
 -- A body that is no refusal's is none of any reply of that kind.
-use Rattle.std.proofs.Common.{◌≡◌, ◌≢◌, ◌≤◌, ◌+◌, ℕ, List, ap, arith}
+use Rattle.std.proofs.Common.{◌≢◌, ◌≤◌, ℕ, List, ap, arith}
 use Rattle.srv_edge.specs.declared.kind.TheConstants as kinds
-use Rattle.srv_edge.specs.Frames.{Message, refused}
+use Rattle.srv_edge.specs.Frames.{refused}
 use Rattle.request_frames.specs.Replies.{IsReply, reply_message}
 use Rattle.request_frames.specs.declared.reply.Reply.{Reply}
 use Rattle.request_frames.specs.declared.reply.Reply.TheVariants.{Hello, AddedType, AddedItem, AddedName, GotType, GotItem, GotName, Counted, Bye, Parts, Refused}

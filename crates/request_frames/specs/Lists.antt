@@ -1,5 +1,5 @@
 -- Lists of records in one body, and the parts of the reply to one.
-use Rattle.std.specs.Prelude.{◌≡◌, ◌≢◌, ◌≤◌, ◌<◌, ◌+◌, ◌*◌, ◌^◌, ⊤, ℕ, List, [], ◌∷◌, ◌++◌, length, drop}
+use Rattle.std.specs.Prelude.{◌≡◌, ◌≢◌, ◌≤◌, ◌<◌, ◌*◌, ◌^◌, ⊤, ℕ, List, [], ◌∷◌, ◌++◌, length, drop}
 use Rattle.srv_edge.specs.declared.limit.TheConstants.{LIST_RECORDS}
 use Rattle.srv_edge.specs.Frames.{half_bytes, word_bytes}
 use Rattle.srv_edge.specs.Records.{joined}

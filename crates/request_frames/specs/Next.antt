@@ -1,6 +1,5 @@
 -- What a session reads next, and one turn of its loop.
 use Rattle.std.specs.Prelude.{◌≡◌, ◌≤◌, ◌<◌, ◌^◌, ◌⊎◌, ⊤, ℕ, List, [], ◌++◌, length}
-use Rattle.srv_edge.specs.declared.failed.SessionEnd.{SessionEnd}
 use Rattle.srv_edge.specs.declared.failed.SessionEnd.TheVariants.{Bye, WriteFault}
 use Rattle.srv_edge.specs.Frames.{Frame, IsBye, IsFrame, IsLength, IsPartFrame, Message, frame_bytes, spoken, version_behind, word_bytes}
 use Rattle.request_frames.specs.Requests.{Asked, hello, add_type, add_item, add_name, get_type, get_item, get_name, counts, bye, add_types, add_items}

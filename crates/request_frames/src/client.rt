@@ -74,7 +74,8 @@ fn append(head: Head, kind: u8, body: &[u8], out: &mut Vec<u8>) -> Result<(), Al
     let number = word(head.tag);
     let tag = tag_of(head, &number);
     out.reserve(body.len() + 9)?;
-    out.extend_from_slice(&word((tag.len() + body.len()) as u32 + 1)).unwrap();
+    out.extend_from_slice(&word((tag.len() + body.len()) as u32 + 1))
+        .unwrap();
     out.push(kind).unwrap();
     out.extend_from_slice(tag).unwrap();
     out.extend_from_slice(body).unwrap();

@@ -65,11 +65,7 @@ pub(crate) fn next_frame<S: Source>(
 fn is_length(version: u8, length: u32) -> bool
     ensures { IsTrue result ↔ IsLength version length }
 {
-    let tag = if version == 2 {
-        4
-    } else {
-        0
-    };
+    let tag = if version == 2 { 4 } else { 0 };
     length > tag && length <= FRAME_BYTES + tag
 }
 

@@ -26,11 +26,7 @@ pub(crate) enum Turn {
 fn spoken_version(asked: u16) -> u8
     ensures { result ≡ spoken asked }
 {
-    if asked >= 2 {
-        2
-    } else {
-        asked as u8
-    }
+    if asked >= 2 { 2 } else { asked as u8 }
 }
 
 // What follows a request of a version.

@@ -14,11 +14,7 @@ pub(crate) fn tag_of(head: Head, number: &[u8]) -> &[u8]
     ensures tag { result.now ≡ tag_bytes head }
     ensures size { length result.now ≡ tag_size head.version }
 {
-    if head.version == 2 {
-        number
-    } else {
-        &[]
-    }
+    if head.version == 2 { number } else { &[] }
 }
 
 /// Writes a frame into an empty piece: its length, its kind, its tag and its body.

@@ -2,6 +2,7 @@
 //! and ff that of a refusal: its code, and its two numbers.
 ghost use Rattle.std.specs.Prelude.{◌<◌, ◌≡◌, true};
 
+use crate::commands::version_tests::in_version_2;
 use crate::run::run;
 use crate::status::Status;
 use crate::word::Word;
@@ -23,7 +24,7 @@ const TWICE: &str = "050000008200100000050000008200100000";
 
 // A session's input comes in pieces of so many bytes and one more: in one piece, a byte each, and
 // seven.
-const PIECES: [u8; 3] = [255, 0, 6];
+pub(crate) const PIECES: [u8; 3] = [255, 0, 6];
 
 // A device that fails at every call, which a session never asks.
 fn no_file() -> FileDevice<File> {
@@ -48,7 +49,7 @@ fn source_of(alloc: Global, input: &str, piece: usize, fail: &[u32]) -> Result<M
 
 // The replies of a session as hexadecimal text, and its status, with a source that gives a byte and
 // at most so many more in each call.
-fn talk(
+pub(crate) fn talk(
     alloc: Global,
     keys: RandomState,
     input: &str,
@@ -64,7 +65,7 @@ fn talk(
 }
 
 // The text without its spaces.
-fn packed(alloc: Global, text: &str) -> Result<String, Fail> {
+pub(crate) fn packed(alloc: Global, text: &str) -> Result<String, Fail> {
     let mut all = String::new(alloc);
     for part in text.split_whitespace() {
         all.push_str(part)?;
@@ -158,7 +159,7 @@ fn records_by_their_bytes(rt: HostRuntime) -> Result<(), Fail> {
         ),
         (
             "020000000a00 03000000010200",
-            "0a000000ff030100000000000000 03000000810100",
+            "0a000000ff030100000000000000 03000000810200",
             Status::Ok,
         ),
     ];
@@ -167,6 +168,13 @@ fn records_by_their_bytes(rt: HostRuntime) -> Result<(), Fail> {
         for more in PIECES {
             let (text, got) = talk(rt.alloc(), keys, input, more, &[], &[])?;
             assert_eq!(rt; (text.as_str(), got), (want.as_str(), status), "at {input}");
+        }
+        if status == Status::Ok {
+            let input = in_version_2(rt.alloc(), input)?;
+            let want = in_version_2(rt.alloc(), replies)?;
+            let (text, got) = talk(rt.alloc(), keys, input.as_str(), 255, &[], &[])?;
+            let text = text.as_str().get(14..);
+            assert_eq!(rt; (text, got), (want.as_str().get(14..), status), "at {input}");
         }
     }
     Ok(())
@@ -221,6 +229,13 @@ fn leaves_by_their_bytes(rt: HostRuntime) -> Result<(), Fail> {
         for more in PIECES {
             let (text, got) = talk(rt.alloc(), keys, input, more, &[], &[])?;
             assert_eq!(rt; (text.as_str(), got), (want.as_str(), status), "at {input}");
+        }
+        if status == Status::Ok {
+            let input = in_version_2(rt.alloc(), input)?;
+            let want = in_version_2(rt.alloc(), replies)?;
+            let (text, got) = talk(rt.alloc(), keys, input.as_str(), 255, &[], &[])?;
+            let text = text.as_str().get(14..);
+            assert_eq!(rt; (text, got), (want.as_str().get(14..), status), "at {input}");
         }
     }
     Ok(())
@@ -278,6 +293,13 @@ fn items_and_names_by_their_bytes(rt: HostRuntime) -> Result<(), Fail> {
         for more in PIECES {
             let (text, got) = talk(rt.alloc(), keys, input, more, &[], &[])?;
             assert_eq!(rt; (text.as_str(), got), (want.as_str(), status), "at {input}");
+        }
+        if status == Status::Ok {
+            let input = in_version_2(rt.alloc(), input)?;
+            let want = in_version_2(rt.alloc(), replies)?;
+            let (text, got) = talk(rt.alloc(), keys, input.as_str(), 255, &[], &[])?;
+            let text = text.as_str().get(14..);
+            assert_eq!(rt; (text, got), (want.as_str().get(14..), status), "at {input}");
         }
     }
     Ok(())
@@ -429,7 +451,7 @@ fn one_byte_a_give(rt: HostRuntime) -> Result<(), Fail> {
 
 // The replies of a session whose input begins so and then has so many bytes of one kind, and its
 // end.
-fn talk_of(
+pub(crate) fn talk_of(
     alloc: Global,
     keys: RandomState,
     start: &str,

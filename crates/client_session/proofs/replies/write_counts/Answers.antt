@@ -1,4 +1,4 @@
-use Rattle.std.proofs.Common.{◌≡◌, ◌≤◌, ◌+◌, ◌++◌, ℕ, List, [], length, ap, ◌∙◌, arith}
+use Rattle.std.proofs.Common.{◌≡◌, ◌≤◌, ◌++◌, ℕ, List, [], length, ap, ◌∙◌, arith}
 use Rattle.srv_edge.specs.declared.head.Head.{Head}
 use Rattle.srv_edge.specs.Frames.{Frame, frame_bytes, word_bytes}
 use Rattle.srv_edge.proofs.Numbers.{length-word_bytes}

@@ -1,5 +1,5 @@
 use Rattle.std.proofs.Common.{◌≡◌, ◌+◌, drop, sym, ap, ◌∙◌, inl, inr}
-use Rattle.srv_edge.specs.Frames.{Message, tag_size}
+use Rattle.srv_edge.specs.Frames.{tag_size}
 use Rattle.request_frames.specs.Requests.{message_in}
 use Rattle.request_frames.proofs.Refusing.{no_refusal}
 use Rattle.request_frames.proofs.client.read_message.Goals as goal

@@ -1,7 +1,7 @@
-use Rattle.std.proofs.Common.{◌≤◌, ◌+◌, ◌*◌, ◌∷◌, ◌++◌, ℕ, List, [], length, drop, sym, ap, ◌∙◌, arith, length-append}
+use Rattle.std.proofs.Common.{◌∷◌, ◌++◌, [], length, drop, ap, arith, length-append}
 use Rattle.std.proofs.lemmas.List.{length-drop}
-use Rattle.request_frames.specs.Lists.{BeginsWith, BeginsWithNone, IsRecordList}
-use Rattle.request_frames.proofs.Listing.{Cut, all_cut, cut_more, cut_within, record_within, some_bytes}
+use Rattle.request_frames.specs.Lists.{BeginsWith}
+use Rattle.request_frames.proofs.Listing.{all_cut, cut_more, cut_within, record_within, some_bytes}
 use Rattle.request_frames.proofs.list.read_list.Goals.{then-at-body-via-then-at-body, then-at-body-via-else-at-body+then-count-eq0, then-at-body-via-else-at-body+else-count-eq0+then-count}
 use Rattle.request_frames.proofs.list.read_list.Goals as goal
 

@@ -1,12 +1,11 @@
-use Rattle.std.proofs.Common.{◌≡◌, ◌≤◌, ◌<◌, ◌+◌, ℕ, length, drop, slice_index, get_or, refl, sym, ap, subst, ◌∙◌, inl, inr, arith}
+use Rattle.std.proofs.Common.{◌+◌, length, refl, sym, ap, subst, inl, inr, arith}
 use Rattle.std.proofs.lemmas.List.{get_or-drop}
 use Rattle.srv_edge.specs.declared.code.TheConstants as code
-use Rattle.srv_edge.specs.Frames.{IsLength, frame_bytes, refused, tag_size}
+use Rattle.srv_edge.specs.Frames.{refused, tag_size}
 use Rattle.request_frames.specs.Next.{Follows, turn_behind}
 use Rattle.request_frames.specs.Requests.{asked, frame_in, message_in, head_in}
 use Rattle.request_frames.specs.Talk.{IsReplyTo}
 use Rattle.request_frames.proofs.Following.{bad_follows, turn_follows}
-use Rattle.request_frames.proofs.Framing.{framed}
 use Rattle.request_frames.proofs.serve.answer_frame.Goals as goal
 
 pub returns-in-Ok-clause-reply : goal.returns-in-Ok-clause-reply

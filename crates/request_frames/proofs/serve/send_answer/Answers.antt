@@ -4,7 +4,7 @@ use Rattle.srv_edge.specs.Frames.{frame_bytes}
 use Rattle.request_frames.specs.Requests.{frame_in}
 use Rattle.request_frames.specs.Serving.{answers_with}
 use Rattle.request_frames.specs.Session.{IsSession}
-use Rattle.request_frames.proofs.Following.{is_answered, no_write_fault}
+use Rattle.request_frames.proofs.Following.{is_answered}
 use Rattle.request_frames.proofs.Turns.{answered_turn, fault_session}
 use Rattle.request_frames.proofs.serve.send_answer.Goals as goal
 

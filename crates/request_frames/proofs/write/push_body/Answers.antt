@@ -1,4 +1,4 @@
-use Rattle.std.proofs.Common.{◌≡◌, ◌+◌, ◌-◌, ◌++◌, length, drop, sym, ap, ◌∙◌, arith, length-append}
+use Rattle.std.proofs.Common.{◌≡◌, ◌+◌, ◌-◌, ◌++◌, length, drop, ap, ◌∙◌, arith, length-append}
 use Rattle.std.proofs.lemmas.List.{length-drop}
 use Rattle.srv_edge.specs.Frames.{word_bytes}
 use Rattle.srv_edge.proofs.Numbers.{length-word_bytes}
@@ -22,5 +22,13 @@ returns-clause-frame c = λ f spelled. stands c ∙ grown f c.args.more.now c.pu
 pub returns-clause-size : goal.returns-clause-size
 returns-clause-size c =
     let n = length c.push.new.self - 4 in
-    omega (arith, ap length (stands c), length-append (word_bytes n) (drop 4 c.push.new.self), length-word_bytes n, length-drop 4 c.push.new.self,
-    ap length c.push.ensures, length-append c.args.out.now c.args.more.now, c.requires.some)
+    omega (
+      arith,
+      ap length (stands c),
+      length-append (word_bytes n) (drop 4 c.push.new.self),
+      length-word_bytes n,
+      length-drop 4 c.push.new.self,
+      ap length c.push.ensures,
+      length-append c.args.out.now c.args.more.now,
+      c.requires.some,
+    )

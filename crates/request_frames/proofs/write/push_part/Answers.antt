@@ -1,5 +1,5 @@
-use Rattle.std.proofs.Common.{◌≡◌, [], ◌∷◌, ◌++◌, sym, ap, ◌∙◌, append_assoc}
-use Rattle.srv_edge.specs.Frames.{Frame, Message, frame_bytes, word_bytes}
+use Rattle.std.proofs.Common.{[], ◌∷◌, ◌++◌, ap, ◌∙◌, append_assoc}
+use Rattle.srv_edge.specs.Frames.{frame_bytes, word_bytes}
 use Rattle.request_frames.proofs.write.push_part.Goals as goal
 
 pub returns : goal.returns

@@ -1,11 +1,11 @@
-use Rattle.std.proofs.Common.{◌≡◌, ◌+◌, ◌∷◌, ◌++◌, ℕ, List, [], length, drop, refl, sym, ap, subst, ◌∙◌, arith, length-append}
+use Rattle.std.proofs.Common.{◌+◌, ◌∷◌, ◌++◌, ℕ, List, [], length, refl, sym, ap, subst, ◌∙◌, arith, length-append}
 use Rattle.srv_edge.specs.declared.head.Head.{Head}
 use Rattle.srv_edge.specs.declared.kind.TheConstants as kinds
 use Rattle.srv_edge.specs.Frames.{Frame, frame_bytes}
 use Rattle.request_frames.proofs.Framing.{length-frame_bytes, small_tag}
 use Rattle.request_frames.proofs.Listing.{all_cut, cut_fewer, cut_more, cut_within, none_cut, record_within, some_bytes}
 use Rattle.client_session.specs.Tables.{AddsEach, kind_of_list, part_of}
-use Rattle.client_session.proofs.Lists.{SoFar, each_more, length-part}
+use Rattle.client_session.proofs.Lists.{each_more, length-part}
 use Rattle.client_session.proofs.bare.Bare.add_list.Goals as goal
 
 -- the reply with these parts

@@ -17,9 +17,9 @@ returns-in-Counts c =
     let head = c.args.head in
     let spelled =
     c.write_counts.ensures
-    ∙ ap (λ n. frame_bytes (record { head = head; message = record { kind = 137; body = word_bytes n ++ word_bytes c.len-in-Counts.result ++ word_bytes c.len-in-Counts-2.result } })) c.len.ensures.count
-    ∙ ap (λ n. frame_bytes (record { head = head; message = record { kind = 137; body = word_bytes (length types) ++ word_bytes n ++ word_bytes c.len-in-Counts-2.result } })) c.len-in-Counts.ensures.count
-    ∙ ap (λ n. frame_bytes (record { head = head; message = record { kind = 137; body = word_bytes (length types) ++ word_bytes (length items) ++ word_bytes n } })) c.len-in-Counts-2.ensures in
+    ∙ ap (λ n. frame_bytes (record { head = head; message = record { kind = 137; body = word_bytes n ++ word_bytes c.len-in-Counts.result ++ word_bytes c.len-names.result } })) c.len.ensures.count
+    ∙ ap (λ n. frame_bytes (record { head = head; message = record { kind = 137; body = word_bytes (length types) ++ word_bytes n ++ word_bytes c.len-names.result } })) c.len-in-Counts.ensures.count
+    ∙ ap (λ n. frame_bytes (record { head = head; message = record { kind = 137; body = word_bytes (length types) ++ word_bytes (length items) ++ word_bytes n } })) c.len-names.ensures in
     rw (c.in-Counts.is, ← c.self-in-Counts.view_is) (puts head x _ (record { kind = 137; body = word_bytes (length types) ++ word_bytes (length items) ++ word_bytes (length names) }) _ x
     spelled (inl (refl, refl)) refl (inl refl))
 
