@@ -1,3 +1,5 @@
 mod Offsets
 mod Strings
 mod Reading
+mod FreeBuckets
+mod Texts
