@@ -4,7 +4,7 @@ use Rattle.std.specs.List.{AllByRecursion, Contains}
 use Rattle.std.specs.Option.{option_map, option_or, unwrap_or}
 use Rattle.std.proofs.lemmas.Bool.Decides.{eqb_tells}
 use Rattle.std.proofs.lemmas.List.{get_or_default, get_or-drop, get_or-set_other, get_or-set_same, get_or-take, at_drop_all, at_drop_more, drop_more, length-drop, length-replicate, length-set, length-take-le, take-append-drop}
-use Rattle.names_table.specs.Buckets.{bucket_count, buckets_of, first_free, free_from, name_hash, taken, with_names, with_offset}
+use Rattle.names_table.specs.Buckets.{bucket_count, first_free, free_from, name_hash, taken, with_names, with_offset}
 use Rattle.std.proofs.lemmas.Option.{get_or_from_slice_get, slice_get_cases, slice_get_within}
 use Rattle.names_table.specs.Names.{bytes_of}
 use Rattle.names_table.specs.Strings.{starts_from}
