@@ -89,6 +89,24 @@ free_behind buckets i lt some =
 pub free_nowhere : (buckets : List ℕ) (i : ℕ) → length buckets ≤ i → first_free i (drop i buckets) ≡ None
 free_nowhere buckets i le = at_drop_all (first_free i) buckets i le
 
+-- no bucket before the first that is free is 0
+pub some_before : (n : ℕ) (buckets : List ℕ) (place : ℕ) → first_free n buckets ≡ Some place → (k : ℕ) → n + k < place → get_or buckets k 0 ≢ 0
+some_before n [] place is k lt = absurd cc
+some_before n (b ∷ buckets) place is zero lt =
+    ⊎_elim (λ (f : IsFree b buckets). absurd (let found : Some n ≡ Some place = sym (f.first n) ∙ is in let same : n ≡ place = cc in omega (arith, same, lt)))
+    (λ (t : IsTaken b buckets). t.some) (free_or_taken b buckets)
+some_before n (b ∷ buckets) place is (suc k) lt =
+    ⊎_elim (λ (f : IsFree b buckets). absurd (let found : Some n ≡ Some place = sym (f.first n) ∙ is in let same : n ≡ place = cc in omega (arith, same, lt)))
+    (λ (t : IsTaken b buckets). some_before (n + 1) buckets place (sym (t.first n) ∙ is) k (omega (arith, lt))) (free_or_taken b buckets)
+
+pub some_all : (n : ℕ) (buckets : List ℕ) → first_free n buckets ≡ None → (k : ℕ) → k < length buckets → get_or buckets k 0 ≢ 0
+some_all n [] none k lt = absurd (omega (arith, lt))
+some_all n (b ∷ buckets) none zero lt =
+    ⊎_elim (λ (f : IsFree b buckets). absurd (let e : Some n ≡ None = sym (f.first n) ∙ none in cc)) (λ (t : IsTaken b buckets). t.some) (free_or_taken b buckets)
+some_all n (b ∷ buckets) none (suc k) lt =
+    ⊎_elim (λ (f : IsFree b buckets). absurd (let e : Some n ≡ None = sym (f.first n) ∙ none in cc))
+    (λ (t : IsTaken b buckets). some_all (n + 1) buckets (sym (t.first n) ∙ none) k (omega (arith, lt))) (free_or_taken b buckets)
+
 taken-append : (xs ys : List ℕ) → taken (xs ++ ys) ≡ taken xs + taken ys
 taken-append [] ys = omega arith
 taken-append (x ∷ xs) ys =
@@ -155,6 +173,42 @@ found_by start buckets None None is_behind is_before le some =
 pub found : (start : ℕ) (buckets : List ℕ) → start ≤ length buckets → taken buckets < length buckets → Found start buckets
 found start buckets le some = found_by start buckets (first_free start (drop start buckets)) (first_free 0 (take start buckets)) refl refl le some
 
+-- where it was found: behind the bucket, or going round
+pub record FoundBehind (start : ℕ) (buckets : List ℕ) (place : ℕ) : Type 0 where
+  pub low : start ≤ place
+  pub run : (k : ℕ) → start ≤ k → k < place → get_or buckets k 0 ≢ 0
+
+pub found_behind : (start : ℕ) (buckets : List ℕ) (f : Found start buckets) (place : ℕ) → first_free start (drop start buckets) ≡ Some place → FoundBehind start buckets f.place
+found_behind start buckets f place is =
+    let same : Some place ≡ Some f.place = sym (ap (λ o. option_or o (first_free 0 (take start buckets))) is) ∙ f.is in
+    let at : place ≡ f.place = cc in
+    let first = found_first start (drop start buckets) place is in
+    record {
+      low = omega (arith, first.low, at);
+      run = λ k low lt e.
+          let on : start + (k - start) ≡ k = omega (arith, low) in
+          some_before start (drop start buckets) place is (k - start) (omega (arith, low, lt, at)) (get_or-drop start buckets (k - start) 0 ∙ ap (λ n. get_or buckets n 0) on ∙ e);
+    }
+
+pub record FoundBefore (start : ℕ) (buckets : List ℕ) (place : ℕ) : Type 0 where
+  pub low : place < start
+  pub behind : (k : ℕ) → start ≤ k → k < length buckets → get_or buckets k 0 ≢ 0
+  pub run : (k : ℕ) → 0 ≤ k → k < place → get_or buckets k 0 ≢ 0
+
+pub found_before : (start : ℕ) (buckets : List ℕ) (f : Found start buckets) → first_free start (drop start buckets) ≡ None → start ≤ length buckets → FoundBefore start buckets f.place
+found_before start buckets f none le =
+    let is : first_free 0 (take start buckets) ≡ Some f.place = sym (ap (λ o. option_or o (first_free 0 (take start buckets))) none) ∙ f.is in
+    let first = found_first 0 (take start buckets) f.place is in
+    let low : f.place < start = omega (arith, first.high, length-take-le start buckets le) in
+    record {
+      low = low;
+      behind = λ k low lt e.
+          let on : start + (k - start) ≡ k = omega (arith, low) in
+          some_all start (drop start buckets) none (k - start) (omega (arith, low, lt, length-drop start buckets))
+          (get_or-drop start buckets (k - start) 0 ∙ ap (λ n. get_or buckets n 0) on ∙ e);
+      run = λ k zero_le lt e. some_before 0 (take start buckets) f.place is k (omega (arith, lt)) (get_or-take start buckets k 0 (omega (arith, lt, low)) ∙ e);
+    }
+
 -- by the two parts of the search: what stands from the bucket on, and what stands before it
 pub record IsBehind (start : ℕ) (buckets : List ℕ) (steps : ℕ) : Type 0 where
   pub inside : start + steps < length buckets
@@ -196,46 +250,28 @@ before start buckets le room none =
 pub record Holds (hash offset : ℕ) (buckets : List ℕ) : Type 0 where
   pub size : length (with_offset hash offset buckets) ≡ length buckets
   pub count : taken (with_offset hash offset buckets) ≡ taken buckets + 1
-  pub own : Contains (with_offset hash offset buckets) offset
-  pub kept : (x : ℕ) → x ≢ 0 → Contains buckets x → Contains (with_offset hash offset buckets) x
 
 pub holds : (hash offset : ℕ) (buckets : List ℕ) → offset ≢ 0 → taken buckets < length buckets → Holds hash offset buckets
 holds hash offset buckets some room =
     let lt : hash % length buckets < length buckets = omega (arith, room) in
     let f = found (hash % length buckets) buckets (omega (arith, lt)) room in
-    let new = set buckets f.place offset in
-    let is : with_offset hash offset buckets ≡ new = ap (λ o. unwrap_or (option_map (λ place. set buckets place offset) o) buckets) f.is in
-    let size = length-set buckets f.place offset in
-    let own : Contains new offset = (f.place, omega (arith, size, f.inside), get_or-set_same buckets f.place offset offset f.inside) in
-    let kept : (x : ℕ) → x ≢ 0 → Contains buckets x → Contains new x = λ x some_x has.
-    let apart : has.0 ≢ f.place = λ e. some_x (sym has.2 ∙ get_or_default buckets has.0 x 0 has.1 ∙ ap (λ k. get_or buckets k 0) e ∙ f.free) in
-    (has.0, omega (arith, size, has.1), get_or-set_other buckets f.place has.0 offset x apart ∙ has.2) in
+    let is : with_offset hash offset buckets ≡ set buckets f.place offset = ap (λ o. unwrap_or (option_map (λ place. set buckets place offset) o) buckets) f.is in
     record {
-      size = ap length is ∙ size;
+      size = ap length is ∙ length-set buckets f.place offset;
       count = ap taken is ∙ taken-set buckets f.place offset f.inside f.free some;
-      own = subst (λ bs. Contains bs offset) (sym is) own;
-      kept = λ x some_x has. subst (λ bs. Contains bs x) (sym is) (kept x some_x has);
     }
 
 -- buckets with the offsets of names
 pub record HoldAll (version offset : ℕ) (names : List (List ℕ)) (buckets : List ℕ) : Type 0 where
   pub size : length (with_names version offset names buckets) ≡ length buckets
   pub count : taken (with_names version offset names buckets) ≡ taken buckets + length names
-  pub own : AllByRecursion (λ start. Contains (with_names version offset names buckets) start) (starts_from offset names)
-  pub kept : (x : ℕ) → x ≢ 0 → Contains buckets x → Contains (with_names version offset names buckets) x
 
 pub hold_all : (version offset : ℕ) (names : List (List ℕ)) (buckets : List ℕ) → offset ≢ 0 → taken buckets + length names ≤ length buckets → HoldAll version offset names buckets
-hold_all version offset [] buckets some room = record { size = refl; count = omega arith; own = tt; kept = λ x some_x has. has }
+hold_all version offset [] buckets some room = record { size = refl; count = omega arith }
 hold_all version offset (name ∷ names) buckets some room =
-    let hash = name_hash version name in
-    let h = holds hash offset buckets some (omega (arith, room)) in
-    let ih = hold_all version (offset + length name + 1) names (with_offset hash offset buckets) (λ e. omega (arith, e)) (omega (arith, h.size, h.count, room)) in
-    record {
-      size = ih.size ∙ h.size;
-      count = omega (arith, ih.count, h.count);
-      own = (ih.kept offset some h.own, ih.own);
-      kept = λ x some_x has. ih.kept x some_x (h.kept x some_x has);
-    }
+    let h = holds (name_hash version name) offset buckets some (omega (arith, room)) in
+    let ih = hold_all version (offset + length name + 1) names (with_offset (name_hash version name) offset buckets) (λ e. omega (arith, e)) (omega (arith, h.size, h.count, room)) in
+    record { size = ih.size ∙ h.size; count = omega (arith, ih.count, h.count) }
 
 -- the buckets of names, of which there are more than names
 pub all_held : (version : ℕ) (names : List (List ℕ)) → HoldAll version 1 names (replicate (bucket_count (length names)) 0)

@@ -3,3 +3,4 @@ mod Strings
 mod Reading
 mod FreeBuckets
 mod Texts
+mod Lookups

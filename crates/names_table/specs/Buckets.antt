@@ -1,5 +1,6 @@
 -- The buckets of a written stream of names, by which a name is found from its hash. docs/FORMAT.md, "The stream of names".
-use Rattle.std.specs.Prelude.{ℕ, ◌+◌, ◌/◌, ◌%◌, ◌==◌, if◌then◌else◌, List, [], ◌∷◌, length, take, drop, replicate, slice_set, Option, None, Some, unwrap_or}
+use Rattle.std.specs.Prelude.{ℕ, ◌+◌, ◌/◌, ◌%◌, ◌==◌, if◌then◌else◌, List, [], ◌∷◌, ◌++◌, length, take, drop, replicate, slice_set, Option, None, Some, unwrap_or}
+use Rattle.std.specs.List.{Contains}
 use Rattle.std.specs.Option.{option_map, option_or}
 use Rattle.type_hash.specs.Hash.{string_v1_of, string_v2_of}
 
@@ -37,3 +38,18 @@ with_names version offset (x ∷ names) buckets = with_names version (offset + l
 -- the buckets of names: all are 0 before the first name
 unfoldable pub buckets_of : ℕ → List (List ℕ) → List ℕ
 buckets_of version names = with_names version 1 names (replicate (bucket_count (length names)) 0)
+
+-- the buckets before the first that is 0
+abbrev pub before_free : List ℕ → List ℕ
+before_free [] = []
+before_free (b ∷ buckets) = if b == 0 then [] else b ∷ before_free buckets
+
+-- the offsets that a lookup meets: those from a bucket on, going round, up to the first bucket that is 0
+abbrev pub met_from : ℕ → List ℕ → List ℕ
+met_from start buckets = before_free (drop start buckets ++ take start buckets)
+
+-- A lookup of each name, from the bucket of its hash among so many on, meets the offset at which the name begins.
+abbrev pub AreFound : ℕ → ℕ → ℕ → List (List ℕ) → List ℕ → Type 0
+AreFound version offset count [] buckets = Unit {0}
+AreFound version offset count (x ∷ names) buckets =
+    Contains (met_from (name_hash version x % count) buckets) offset × AreFound version (offset + length x + 1) count names buckets

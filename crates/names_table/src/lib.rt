@@ -12,6 +12,6 @@ mod tests;
 mod write;
 
 pub use crate::fault::{NameFault, NamesFault};
-pub use crate::laws::{offsets_have_buckets, written_names_are_read};
+pub use crate::laws::{buckets_are_counted, written_names_are_found, written_names_are_read};
 pub use crate::read::read_names;
 pub use crate::table::NamesTable;
