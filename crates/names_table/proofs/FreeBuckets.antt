@@ -1,13 +1,11 @@
 -- Offsets put into buckets: one is always free, and each offset finds one.
-use Rattle.std.proofs.Common.{◌≡◌, ◌≢◌, ◌≤◌, ◌<◌, ◌+◌, ◌-◌, ◌%◌, ℕ, zero, suc, cond, List, [], ◌∷◌, ◌++◌, length, get_or, slice_get, set, take, drop, replicate, Option, None, Some, IsSome, refl, sym, ap, ⊎_elim, ◌⊎◌, inl, inr, ◌∙◌, arith, subst}
-use Rattle.std.specs.List.{AllByRecursion, Contains}
+use Rattle.std.proofs.Common.{◌≡◌, ◌≢◌, ◌≤◌, ◌<◌, ◌+◌, ◌-◌, ◌%◌, ℕ, zero, suc, cond, List, [], ◌∷◌, ◌++◌, length, get_or, slice_get, set, take, drop, replicate, Option, None, Some, IsSome, refl, sym, ap, ⊎_elim, ◌⊎◌, inl, inr, ◌∙◌, arith}
 use Rattle.std.specs.Option.{option_map, option_or, unwrap_or}
 use Rattle.std.proofs.lemmas.Bool.Decides.{eqb_tells}
-use Rattle.std.proofs.lemmas.List.{get_or_default, get_or-drop, get_or-set_other, get_or-set_same, get_or-take, at_drop_all, at_drop_more, drop_more, length-drop, length-replicate, length-set, length-take-le, take-append-drop}
+use Rattle.std.proofs.lemmas.List.{get_or-drop, get_or-take, at_drop_all, at_drop_more, drop_more, length-drop, length-replicate, length-set, length-take-le, take-append-drop}
 use Rattle.names_table.specs.Buckets.{bucket_count, first_free, free_from, name_hash, taken, with_names, with_offset}
 use Rattle.std.proofs.lemmas.Option.{get_or_from_slice_get, slice_get_cases, slice_get_within}
 use Rattle.names_table.specs.Names.{bytes_of}
-use Rattle.names_table.specs.Strings.{starts_from}
 use Rattle.names_table.proofs.Offsets.{length-le}
 
 -- what a bucket at the front does to the count and to the search

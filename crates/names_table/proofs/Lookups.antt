@@ -5,7 +5,7 @@ use Rattle.std.specs.Option.{option_map, unwrap_or}
 use Rattle.std.proofs.lemmas.Bool.{cases_lt}
 use Rattle.std.proofs.lemmas.Bool.Decides.{eqb_tells}
 use Rattle.std.proofs.lemmas.List.{get_or_append_left, get_or-append_right, get_or-drop, get_or-set_other, get_or-set_same, get_or-take, length-append, length-drop, length-replicate, length-set, length-take-le}
-use Rattle.names_table.specs.Buckets.{AreFound, before_free, bucket_count, first_free, free_from, met_from, name_hash, taken, with_names, with_offset}
+use Rattle.names_table.specs.Buckets.{AreFound, before_free, bucket_count, first_free, met_from, name_hash, taken, with_names, with_offset}
 use Rattle.names_table.proofs.FreeBuckets.{Found, found, found_before, found_behind, holds, taken-replicate}
 
 -- no bucket of these is 0
