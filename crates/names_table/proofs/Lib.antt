@@ -1,3 +1,6 @@
 mod Offsets
 mod Strings
 mod Reading
+mod FreeBuckets
+mod Texts
+mod Lookups

@@ -1,8 +1,9 @@
 -- Names in one run of bytes.
-use Rattle.std.proofs.Common.{◌≡◌, ◌≢◌, ◌≤◌, ◌<◌, ◌+◌, ◌-◌, ◌^◌, ℕ, cond, eq-eqb, zero, suc, List, [], ◌∷◌, ◌++◌, length, get_or, take, drop, Some, None, Ok, Err, All, refl, sym, ap, subst, ⊎_elim, ◌⊎◌, inl, inr, ◌∙◌, arith, length-append, append_assoc}
+use Rattle.std.proofs.Common.{◌≡◌, ◌≢◌, ◌≤◌, ◌<◌, ◌+◌, ◌-◌, ◌^◌, ℕ, cond, eq-eqb, zero, suc, List, [], ◌∷◌, ◌++◌, length, get_or, slice_get, take, drop, Some, None, Ok, Err, All, refl, sym, ap, subst, ⊎_elim, ◌⊎◌, inl, inr, ◌∙◌, arith, length-append, append_assoc}
 use Rattle.std.proofs.lemmas.Bool.Decides.{eqb_tells}
 use Rattle.std.proofs.lemmas.List.Elements.{All-push, recursion_from_All}
 use Rattle.std.proofs.lemmas.List.Sorted.{searched}
+use Rattle.std.proofs.lemmas.Option.{slice_get-get_or}
 use Rattle.std.specs.List.{AllByRecursion}
 use Rattle.std.specs.List.Sorted.{IsBinarySearchResult}
 use Rattle.std.specs.Ordering.{nat_cmp}
@@ -197,13 +198,21 @@ searches bytes starts offset i a result =
     let at : (k : ℕ) → get_or (starts_from 1 names) k 0 ≡ get_or starts k 0 = λ k. ap (λ s. get_or s k 0) (sym a.begin) in
     sym (absent 1 names offset (λ k lt e. ⊎_elim (λ l. let b = m.1 k l in omega (arith, b, at k, e)) (λ l. let b = m.2 k l (omega (arith, lt, length-begin bytes starts a)) in omega (arith, b, at k, e)) (before_or_behind k i)))
 
-pub finds : (bytes starts : List ℕ) (offset : ℕ) (i end : ℕ) → AreStrings bytes starts → IsBinarySearchResult (λ y. nat_cmp y offset) starts (Ok i) → EndsAt bytes starts i end
-    → Some (take (end - (get_or starts i 0 - 1)) (drop (get_or starts i 0 - 1) bytes)) ≡ name_from 1 (names_cut bytes) offset
-finds bytes starts offset i end a result ends =
+-- the bytes from where the name at a place begins to where it ends
+pub named : (bytes starts : List ℕ) (i end : ℕ) → AreStrings bytes starts → i < length starts → EndsAt bytes starts i end
+    → Some (take (end - (get_or starts i 0 - 1)) (drop (get_or starts i 0 - 1) bytes)) ≡ slice_get (names_cut bytes) i
+named bytes starts i end a lt ends =
+    let names = names_cut bytes in
+    let p = place bytes starts i a lt in
+    let size : end - (get_or starts i 0 - 1) ≡ length (get_or names i []) = omega (arith, ends, p.begins) in
+    ap (λ n. Some (take n (drop (get_or starts i 0 - 1) bytes))) size ∙ ap (λ x. Some x) p.text
+    ∙ sym (slice_get-get_or names i [] (omega (arith, lt, length-begin bytes starts a)))
+
+pub finds : (bytes starts : List ℕ) (offset : ℕ) (i : ℕ) → AreStrings bytes starts → IsBinarySearchResult (λ y. nat_cmp y offset) starts (Ok i) → slice_get (names_cut bytes) i ≡ name_from 1 (names_cut bytes) offset
+finds bytes starts offset i a result =
     let m = searched starts offset (Ok i) result (starts-rise bytes starts a) in
     let p = place bytes starts i a m.0 in
-    let size : end - (get_or starts i 0 - 1) ≡ length (get_or (names_cut bytes) i []) = omega (arith, ends, p.begins) in
-    ap (λ n. Some (take n (drop (get_or starts i 0 - 1) bytes))) size ∙ ap (λ x. Some x) p.text ∙ sym p.found ∙ ap (name_from 1 (names_cut bytes)) m.1
+    slice_get-get_or (names_cut bytes) i [] (omega (arith, m.0, length-begin bytes starts a)) ∙ sym p.found ∙ ap (name_from 1 (names_cut bytes)) m.1
 
 -- where the name at a place ends
 pub record Ends (bytes starts : List ℕ) (i end : ℕ) : Type 0 where

@@ -1,7 +1,7 @@
-ghost use Rattle.std.specs.Prelude.{◌≡◌, ◌≤◌, ◌<◌, ◌+◌, ◌-◌, ◌^◌, ◌↔◌, ◌++◌, [], ◌∷◌, get_or, length, OnOk, OnErr};
+ghost use Rattle.std.specs.Prelude.{◌≡◌, ◌≤◌, ◌<◌, ◌+◌, ◌-◌, ◌^◌, ◌↔◌, ◌++◌, [], ◌∷◌, get_or, length, slice_get, OnOk, OnErr};
 ghost use Rattle.std.specs.Option.{option_copied};
 ghost use Rattle.names_table.specs.Names.{IsName, bytes_of, name_from};
-ghost use Rattle.names_table.specs.Strings.{AreStrings, EndsAt, names_cut};
+ghost use Rattle.names_table.specs.Strings.{AreStrings, EndsAt, names_cut, strings_of};
 
 use std::alloc::{AllocError, Global};
 use std::marker::Model;
@@ -58,6 +58,21 @@ impl NameList {
         name_at(&self.strings, &self.starts, offset)
     }
 
+    /// The name at a position, counted from 0.
+    pub(crate) fn name(&self, position: u32) -> Option<&[u8]>
+        ensures { option_copied result ≡ slice_get self.now position }
+    {
+        name_in(&self.strings, &self.starts, position as usize)
+    }
+
+    /// The names, each with a NUL behind it.
+    pub(crate) fn strings(&self) -> &[u8]
+        ensures strings { result.now ≡ strings_of self.now }
+        ensures bytes { length result.now + 1 ≡ bytes_of self.now }
+    {
+        &self.strings
+    }
+
     pub(crate) fn len(&self) -> u32
         ensures { result ≡ length self.now }
     {
@@ -78,13 +93,22 @@ fn name_at<'a>(strings: &'a [u8], starts: &[u32], offset: u32) -> Option<&'a [u8
     ensures { option_copied result ≡ name_from 1 (names_cut strings.now) offset }
 {
     match starts.binary_search(&offset) {
-        Ok(place) => {
-            let start = starts[place] as usize - 1;
-            let end = end_at(strings, starts, place);
-            Some(&strings[start..end])
-        }
+        Ok(place) => name_in(strings, starts, place),
         Err(_) => None,
     }
+}
+
+// The name at a place.
+fn name_in<'a>(strings: &'a [u8], starts: &[u32], place: usize) -> Option<&'a [u8]>
+    requires { AreStrings strings.now starts.now }
+    ensures { option_copied result ≡ slice_get (names_cut strings.now) place }
+{
+    if place >= starts.len() {
+        return None;
+    }
+    let start = starts[place] as usize - 1;
+    let end = end_at(strings, starts, place);
+    Some(&strings[start..end])
 }
 
 // Where the name at a place ends among the strings: before its NUL.

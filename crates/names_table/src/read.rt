@@ -14,11 +14,11 @@ use srv_edge::limit::NAME_BYTES;
 use std::alloc::Global;
 use std::hash::RandomState;
 
-// The first four bytes of the stream.
-const SIGNATURE: u32 = 0xEFFE_EFFE;
+/// The first four bytes of the stream.
+pub(crate) const SIGNATURE: u32 = 0xEFFE_EFFE;
 
-// The signature, the version of the hashes, and how many bytes the strings have.
-const HEADER_BYTES: u32 = 12;
+/// The signature, the version of the hashes, and how many bytes the strings have.
+pub(crate) const HEADER_BYTES: u32 = 12;
 
 /// The table that the stream `/names` holds, or the first test that it fails. What follows the
 /// strings is not judged.

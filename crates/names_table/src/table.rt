@@ -1,10 +1,13 @@
-ghost use Rattle.std.specs.Prelude.{◌≡◌, ◌≤◌, ◌^◌, ◌↔◌, ◌⊎◌, ◌++◌, [], ◌∷◌, Err, None, Some, length, IfOk, IfSome, IsTrue, OnErr, OnOk};
+ghost use Rattle.std.specs.Prelude.{◌≡◌, ◌≤◌, ◌^◌, ◌↔◌, ◌⊎◌, ◌++◌, [], ◌∷◌, Err, None, Ok, Some, length, IfOk, IfSome, IsTrue, OnErr, OnOk};
 ghost use Rattle.std.specs.Option.{option_copied};
 ghost use Rattle.srv_edge.specs.declared.limit.TheConstants.{NAME_BYTES};
 ghost use Rattle.names_table.specs.Names.{Adds, HasRoomFor, IsName, IsNamesTable, Names, bytes_of, name_at, offset_of};
+ghost use Rattle.names_table.specs.Reading.{reading};
+ghost use Rattle.names_table.specs.Text.{names_text};
 
 use crate::fault::NameFault;
 use crate::list::NameList;
+use crate::write::names_text;
 use indexmap::IndexMap;
 use srv_edge::Limits;
 use std::alloc::{AllocError, Global};
@@ -127,6 +130,17 @@ impl NamesTable {
             return Some(&[]);
         }
         self.list.get(offset)
+    }
+
+    /// The text of the stream `/names` with the names of this table.
+    pub fn write_names(&self, alloc: Global) -> Result<Vec<u8>, AllocError>
+        ensures text { IfOk result
+            (λ text. text.items ≡ names_text self.now.version self.now.names) }
+        // What is written is read again as this table.
+        ensures read { IfOk result
+            (λ text. reading self.now.max_bytes text.items ≡ Ok self.now) }
+    {
+        names_text(alloc, self.version, &self.list)
     }
 
     /// How many names there are, the empty one at 0 not among them.

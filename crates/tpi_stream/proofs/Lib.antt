@@ -3,3 +3,4 @@ pub mod Offsets
 pub mod Joining
 pub mod HeaderTexts
 pub mod Streams
+pub mod WrittenStreams

@@ -2,3 +2,4 @@ pub mod HeaderText
 pub mod Reading
 pub mod Stream
 pub mod Hashes
+pub mod Written

@@ -1,5 +1,6 @@
 ghost use Rattle.std.specs.Prelude.{◌≡◌, ◌≤◌, ◌<◌, ◌+◌, ◌^◌, ◌++◌, length, IfOk, OnOk};
 ghost use Rattle.byteorder.specs.Endian.{little_bytes};
+ghost use Rattle.srv_edge.specs.Records.{joined};
 ghost use Rattle.tpi_stream.specs.declared.header.TheConstants.{FIRST_INDEX};
 ghost use Rattle.tpi_stream.specs.Hashes.{has_offset, hash_text, hash_values, index_offsets, offset_between};
 
@@ -18,7 +19,9 @@ pub fn hash_text(alloc: Global, records: &RecordList, buckets: u32) -> Result<Ve
     requires few { length records.now ≤ 2 ^ 23 }
     ensures { IfOk result (λ text. text.items ≡ hash_text records.now buckets) }
 {
-    let mut text = Vec::new(alloc);
+    // Each index offset but the first stands where a multiple of the step is passed.
+    let most_offsets = records.joined().len() / OFFSET_STEP as usize + 1;
+    let mut text = Vec::with_capacity(alloc, 4 * records.len() as usize + 8 * most_offsets)?;
     put_hashes(&mut text, records, buckets)?;
     put_offsets(&mut text, records)?;
     Ok(text)
@@ -40,15 +43,14 @@ fn put_hashes(text: &mut Vec<u8>, records: &RecordList, buckets: u32) -> Result<
 
 // The index offset of each record that has one.
 fn put_offsets(text: &mut Vec<u8>, records: &RecordList) -> Result<(), AllocError>
-    requires { length records.now ≤ 2 ^ 23 }
+    requires few { length records.now ≤ 2 ^ 23 }
+    requires short { length (joined records.now) < 2 ^ 32 }
     ensures { OnOk result (text.new.items ≡ text.old.items ++ index_offsets records.now) }
 {
-    // All records have under 2 ^ 32 bytes, so that the sum of their lengths fits.
-    let _bytes = records.joined();
     let mut i = 0;
-    let mut start: u64 = 0;
+    let mut start = 0;
     while let Some(record) = records.get(i) {
-        let end = start + record.len() as u64;
+        let end = start + record.len() as u32;
         put_offset(text, i, start, end)?;
         start = end;
         i += 1;
@@ -57,7 +59,7 @@ fn put_offsets(text: &mut Vec<u8>, records: &RecordList) -> Result<(), AllocErro
 }
 
 // The index offset of the record at a position, which has these bounds.
-fn put_offset(text: &mut Vec<u8>, i: u32, start: u64, end: u64) -> Result<(), AllocError>
+fn put_offset(text: &mut Vec<u8>, i: u32, start: u32, end: u32) -> Result<(), AllocError>
     requires { i ≤ 2 ^ 23 }
     ensures { OnOk result (text.new.items ≡ text.old.items ++ offset_between i start end) }
 {
@@ -67,22 +69,20 @@ fn put_offset(text: &mut Vec<u8>, i: u32, start: u64, end: u64) -> Result<(), Al
     Ok(())
 }
 
-// The index of the record at a position, and where it begins: the records of a list have under 2 ^
-// 32 bytes.
-fn offset_bytes(i: u32, start: u64) -> [u8; 8]
+// The index of the record at a position, and where it begins.
+fn offset_bytes(i: u32, start: u32) -> [u8; 8]
     requires { i ≤ 2 ^ 23 }
     ensures { result ≡ little_bytes 4 (FIRST_INDEX + i) ++ little_bytes 4 start }
 {
     let mut bytes = [0; 8];
     LittleEndian::write_u32(&mut bytes[..4], FIRST_INDEX + i);
-    bytes[4..].copy_from_slice(&start.to_le_bytes()[..4]);
+    LittleEndian::write_u32(&mut bytes[4..], start);
     bytes
 }
 
 // Whether the record at a position, which has these bounds, has an index offset.
-fn has_offset(i: u32, start: u64, end: u64) -> bool
+fn has_offset(i: u32, start: u32, end: u32) -> bool
     ensures { result ≡ has_offset i start end }
 {
-    let step = u64::from(OFFSET_STEP);
-    i == 0 || start / step < end / step
+    i == 0 || start / OFFSET_STEP < end / OFFSET_STEP
 }

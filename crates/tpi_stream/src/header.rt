@@ -1,8 +1,10 @@
-ghost use Rattle.std.specs.Prelude.{◌≡◌, ◌≤◌, ◌+◌, drop, length, OnOk};
+ghost use Rattle.std.specs.Prelude.{◌≡◌, ◌≤◌, ◌+◌, ◌*◌, drop, length, OnOk};
 ghost use Rattle.byteorder.specs.Endian.{little_number};
 ghost use Rattle.msf_blocks.specs.Judging.{first_damage, unless};
+ghost use Rattle.srv_edge.specs.declared.limit.TheConstants.{MOST_RECORDS};
 ghost use Rattle.tpi_stream.specs.HeaderText.{back_text, front_text, header_in, header_text};
 ghost use Rattle.tpi_stream.specs.Reading.{header_fault};
+ghost use Rattle.tpi_stream.specs.Written.{header_with, kept_of};
 ghost use Rattle.tpi_stream.specs.declared.header.TheConstants.{HEADER_BYTES};
 
 use crate::fault::TpiFault;
@@ -54,6 +56,54 @@ pub struct Header {
     /// Where the adjusters begin in the hash stream, and their bytes.
     pub adjusters_at: u32,
     pub adjusters_len: u32,
+}
+
+/// The numbers of a header that a stream keeps, whatever records are written to it.
+#[derive(Clone, Copy, Debug, PartialEq, Eq)]
+pub struct Kept {
+    /// The number of the hash stream.
+    pub hash_stream: u16,
+    /// The number of a further hash stream, or FFFF.
+    pub aux_stream: u16,
+    pub buckets: u32,
+}
+
+/// The numbers of a header that are kept.
+pub fn kept_of(h: &Header) -> Kept
+    ensures { result ≡ kept_of h.now }
+{
+    Kept {
+        hash_stream: h.hash_stream,
+        aux_stream: h.aux_stream,
+        buckets: h.buckets,
+    }
+}
+
+/// The header of a stream that is written, of so many records and bytes, where the index offsets
+/// of the hash stream have so many bytes.
+pub fn header_with(kept: Kept, count: u32, bytes: u32, offsets: u32) -> Header
+    requires count { count ≤ MOST_RECORDS }
+    requires offsets { offsets ≤ 8 * count }
+    ensures { result ≡ header_with kept count bytes offsets }
+{
+    let values = KEY_BYTES * count;
+    Header {
+        version: VERSION,
+        header_size: HEADER_BYTES,
+        begin: FIRST_INDEX,
+        end: FIRST_INDEX + count,
+        record_bytes: bytes,
+        hash_stream: kept.hash_stream,
+        aux_stream: kept.aux_stream,
+        key_size: KEY_BYTES,
+        buckets: kept.buckets,
+        values_at: 0,
+        values_len: values,
+        offsets_at: values,
+        offsets_len: offsets,
+        adjusters_at: values + offsets,
+        adjusters_len: 0,
+    }
 }
 
 /// The text of a header.

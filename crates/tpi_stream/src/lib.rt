@@ -11,10 +11,10 @@ mod reading;
 pub use crate::fault::TpiFault;
 pub use crate::hashes::{OFFSET_STEP, hash_text};
 pub use crate::header::{
-    FIRST_INDEX, HEADER_BYTES, Header, KEY_BYTES, LEAST_BUCKETS, MOST_BUCKETS, VERSION,
-    header_bytes,
+    FIRST_INDEX, HEADER_BYTES, Header, KEY_BYTES, Kept, LEAST_BUCKETS, MOST_BUCKETS, VERSION,
+    header_bytes, header_with, kept_of,
 };
-pub use crate::laws::{records_are_joined, text_is_read};
+pub use crate::laws::{records_are_joined, text_is_read, written_records_are_read};
 pub use crate::reading::{Records, read_records};
 
 #[cfg(test)]

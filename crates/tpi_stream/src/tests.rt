@@ -20,6 +20,7 @@ fn first_record(rt: HostRuntime) -> Result<(), Fail> {
         .ok_or("it is read")?;
     let h = records.header;
     assert_eq!(rt; header_bytes(&h)[..], STREAM[..56]);
+    assert_eq!(rt; header_with(kept_of(&h), 1, 12, 8), h);
     assert_eq!(rt; h.hash_stream, 5);
     assert_eq!(rt; h.aux_stream, 0xffff);
     assert_eq!(rt; h.buckets, 0x3ffff);

@@ -4,6 +4,15 @@ use Rattle.tpi_stream.specs.Hashes.{index_offsets, offset_between, offset_text, 
 use Rattle.tpi_stream.proofs.Offsets.{put_next, start_most, start_next}
 use Rattle.tpi_stream.proofs.hashes.put_offsets.Goals as goal
 
+pub overflow_cast-end : goal.overflow_cast-end
+overflow_cast-end c =
+    let records = c.args.records.now in
+    let i = c.loop-record.i in
+    let lt = c.in-Some.ensures.some.0 refl in
+    let next = start_next records i c.in-Some.record.now c.in-Some.ensures.record lt in
+    let most = start_most records (i + 1) in
+    omega (arith, next, most, c.requires.short)
+
 pub overflow_add-end : goal.overflow_add-end
 overflow_add-end c =
     let records = c.args.records.now in
@@ -11,7 +20,7 @@ overflow_add-end c =
     let lt = c.in-Some.ensures.some.0 refl in
     let next = start_next records i c.in-Some.record.now c.in-Some.ensures.record lt in
     let most = start_most records (i + 1) in
-    omega (arith, next, most, c.loop-record.invariant.1, ap length c.joined-bytes.ensures.bytes, c.joined-bytes.ensures.few)
+    omega (arith, next, most, c.loop-record.invariant.1, c.requires.short)
 
 pub loop-record-preserved : goal.loop-record-preserved
 loop-record-preserved c =
