@@ -1,0 +1,1 @@
+//! Command lines, each with the plan that it stands for.
