@@ -1,2 +1,5 @@
 mod Words
 mod Walks
+mod Rows
+pub mod Reading
+pub mod Spelling
