@@ -1,11 +1,12 @@
 -- What the parser finds is the line of the words, or it fails where they have none.
-use Rattle.std.proofs.Common.{◌≡◌, ◌∙◌, ◌⊎◌, ◌&&◌, ◌||◌, ◌+◌, ℕ, Bool, cond, true, false, not, refl, sym, ap, ap₂, subst, List, [], ◌∷◌, ◌++◌, map, Option, Some, None, Result, Ok, Err, option_map, inl, inr, add-zero, true≢false}
+use Rattle.std.proofs.Common.{◌≡◌, ◌∙◌, ◌⊎◌, ◌&&◌, ◌||◌, ◌+◌, ◌<◌, ℕ, Bool, cond, true, false, not, refl, sym, ap, ap₂, subst, List, [], ◌∷◌, ◌++◌, map, length, take, Option, Some, None, Result, Ok, Err, option_map, inl, inr, add-zero, true≢false}
 use Rattle.std.specs.Prelude.{is_some, option_and_then}
-use Rattle.std.specs.List.{AllByRecursion, fold, list_all, list_any}
+use Rattle.std.specs.Borrow.{Bor}
+use Rattle.std.specs.List.{AllByRecursion, fold, list_all, list_any, slice_index_or}
 use Rattle.std.specs.Str.{IsUtf8, bytes_eq}
-use Rattle.std.proofs.lemmas.Bool.{and_parts}
+use Rattle.std.proofs.lemmas.List.{map-append, take_more}
 use Rattle.clap.specs.Walk.{Held, Row, Rule, Text, Walk, all_of, finished, first_of, has_row, idle, is_early_multiple, nothing_held, rows_after, rows_of, settled, walk, walk_from, with_default, default_rows}
-use Rattle.clap.specs.Simple.{App, HasMatchesOf, built, is_buildable, is_in_order, is_ready, is_ready_leaf, is_simple, matches_of, names_of}
+use Rattle.clap.specs.Simple.{App, HasMatchesOf, built, is_buildable, is_in_order, is_ready, is_ready_leaf, is_simple, matches_of, names_of, with_rule}
 use Rattle.clap.specs.Matches.{first_value, found_of, matched_of, raw_values}
 use Rattle.clap.specs.Kinds.{FailsBy, HasKind, IsAmong, Kinds, or_else}
 use Rattle.clap.specs.Values.{kind_of}
@@ -195,3 +196,11 @@ module _ (names : List Text) (known : are_names names ≡ true) where
     no_line e kinds other =
         none_taken (given_from names words None) (total names start words) (last_rows names start words) agrees_here
         (λ none. among_none e _ kinds other (fault_is names words ∙ none))
+
+-- one more option
+pub app_more : (names : List Text) (name : Text) → with_rule (app_for names) (option_rule name) ≡ app_for (names ++ name ∷ [])
+app_more names name = ap (λ rules. record (app_for names) { top = record (app_for names).top { rules = positional_rule ∷ rules } }) (sym (map-append option_rule names (name ∷ [])))
+
+pub names_more : (names : List (Bor Text)) (i : ℕ) (d : Bor Text) → i < length names
+    → map (λ n. n.now) (take i names) ++ (slice_index_or names i d).now ∷ [] ≡ map (λ n. n.now) (take (i + 1) names)
+names_more names i d lt = sym (ap (map (λ n. n.now)) (take_more names i d lt) ∙ map-append (λ n. n.now) (take i names) (slice_index_or names i d ∷ []))

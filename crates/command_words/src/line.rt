@@ -1,6 +1,6 @@
 //! The one call of the parser of command lines.
 
-ghost use Rattle.std.specs.Prelude.{◌≡◌, ◌⊎◌, List, None, Some, IfOk, MatchResult, false, map, option_map, true};
+ghost use Rattle.std.specs.Prelude.{◌≡◌, ◌≢◌, ◌⊎◌, List, None, Some, IfOk, MatchResult, false, map, option_map, true};
 ghost use Rattle.std.specs.List.{AllByRecursion};
 ghost use Rattle.std.specs.Str.{IsUtf8};
 ghost use Rattle.clap.specs.Matches.{found_of, matched_of, raw_values};
@@ -34,8 +34,18 @@ pub(crate) fn read<'a>(
     let command = command_for(alloc, names)?;
     match command.try_get_matches_from(words) {
         Ok(matches) => Ok(matches),
-        Err(error) if error.kind() == ErrorKind::OutOfMemory => Err(Usage::OutOfMemory),
-        Err(_) => Err(Usage::NotAForm),
+        Err(error) => Err(usage_of(error.kind())),
+    }
+}
+
+// Why words have no line, by the kind of the parser's error.
+fn usage_of(kind: ErrorKind) -> Usage
+    ensures { (result ≡ Usage.OutOfMemory)
+        ⊎ ((result ≡ Usage.NotAForm) × (kind ≢ ErrorKind.OutOfMemory)) }
+{
+    match kind {
+        ErrorKind::OutOfMemory => Usage::OutOfMemory,
+        _ => Usage::NotAForm,
     }
 }
 
