@@ -3,3 +3,4 @@ mod Walks
 mod Rows
 pub mod Reading
 pub mod Spelling
+pub mod Plans

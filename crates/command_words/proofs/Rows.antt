@@ -235,7 +235,7 @@ have names known ((Some own, value) ∷ given) rows all none =
     let apart_own : bytes_eq own positional_name ≡ false = text_sym own positional_name ∙ apart names known own all.0 in
     let later = have names known given (with_value own value rows) all.1 (ap (all_fault names given) (sym same) ∙ second_none _ _ none) in (
       ap (λ rs. values_at positional_name (all_rows names given rs)) same ∙ later.0
-      ∙ ap (λ vs. vs ++ positionals_of given) (values_other own value positional_name rows apart_own),
+          ∙ ap (λ vs. vs ++ positionals_of given) (values_other own value positional_name rows apart_own),
       λ name other. ap (λ rs. values_at name (all_rows names given rs)) same ∙ later.1 name other ∙ step own value name (options_of given) rows,
     )
   where

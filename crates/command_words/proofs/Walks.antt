@@ -278,7 +278,7 @@ then_pending names g last rows (Some given) fault end agrees known = (ap (or_els
 then_in_row : (names : List Text) (g : Given) (last : Option Given) (rows : List Row) (given : Option (List Given)) (fault : Kinds) (end : List Row)
     → Agrees names None (rows_with names (pending_for (Some g)) (rows_with names (pending_for last) rows)) given fault end → IsKnown names g.0
     → Agrees names last rows (then_given g given)
-        (or_else (or_else (held_fault names (pending_for last) rows) (held_fault names (pending_for (Some g)) (rows_with names (pending_for last) rows))) fault) end
+    (or_else (or_else (held_fault names (pending_for last) rows) (held_fault names (pending_for (Some g)) (rows_with names (pending_for last) rows))) fault) end
 then_in_row names g last rows None fault end agrees known = λ none. agrees (second_none _ _ none)
 then_in_row names g last rows (Some given) fault end agrees known =
     let before = held_fault names (pending_for last) rows in

@@ -1,5 +1,5 @@
 -- The forms of a command line.
-use Rattle.std.specs.Prelude.{◌≡◌, ◌⊎◌, List, [], ◌∷◌, Option, Some, None, Result, MatchResult, if◌then◌else◌, option_and_then, codes}
+use Rattle.std.specs.Prelude.{◌≡◌, ◌⊎◌, ◌<◌, ⊤, length, List, [], ◌∷◌, Option, Some, None, Result, MatchResult, if◌then◌else◌, option_and_then, codes}
 use Rattle.std.specs.Str.{bytes_eq}
 use Rattle.command_words.specs.declared.plan.Plan.{Plan}
 use Rattle.command_words.specs.declared.plan.Plan.TheVariants as plan
@@ -43,3 +43,13 @@ form_by command words =
 abbrev pub form_of : List Text → Option Plan
 form_of [] = None
 form_of (command ∷ words) = form_by command words
+
+-- a path has at least one byte
+abbrev pub IsPlan : Plan → Type 0
+IsPlan plan.Session = ⊤
+IsPlan (plan.Check path) = 0 < length path
+
+-- words that stand for a plan. Behind two dashes each path may stand.
+abbrev pub words_for : Plan → List Text
+words_for plan.Session = codes "session" ∷ []
+words_for (plan.Check path) = codes "check" ∷ codes "--" ∷ path ∷ []

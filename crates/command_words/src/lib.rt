@@ -8,6 +8,6 @@ mod plan;
 mod tests;
 mod word;
 
-pub use crate::laws::words_spell;
+pub use crate::laws::{plans_have_words, words_spell};
 pub use crate::plan::{Plan, Usage, plan_of};
 pub use crate::word::Word;
