@@ -45,8 +45,8 @@ pub fn plan_of(alloc: Global, words: &[Word]) -> Result<Plan, Usage>
     }
 }
 
-// The words as texts.
-fn texts_of<'a>(alloc: Global, words: &'a [Word]) -> Result<Vec<&'a str>, AllocError>
+/// The words as texts.
+pub(crate) fn texts_of<'a>(alloc: Global, words: &'a [Word]) -> Result<Vec<&'a str>, AllocError>
     ensures same { IfOk result (λ texts. map (λ w. w.now) texts.items ≡ words.now) }
     ensures texts { IfOk result (λ texts. AllByRecursion IsUtf8 (map (λ w. w.now) texts.items)) }
 {

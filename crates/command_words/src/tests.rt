@@ -1,7 +1,7 @@
 //! Command lines, each with the plan that it stands for, and lines of a command with options.
 
 use crate::line::{POSITIONAL, read};
-use crate::plan::{Plan, Usage, plan_of};
+use crate::plan::{Plan, Usage, plan_of, texts_of};
 use crate::word::Word;
 use clap::ArgMatches;
 use std::alloc::Global;
@@ -152,56 +152,51 @@ fn found(alloc: Global, matches: &ArgMatches) -> Result<String, Fail> {
     Ok(text)
 }
 
-// Each word of the lines, apart.
-static LINES: [(&[&str], Option<&str>); 33] = [
-    (&[], Some("")),
-    (&["--"], Some("")),
-    (&["P", "-", "Q"], Some("P,-,Q,")),
-    (&["--block", "512", "P"], Some("block=512,P,")),
-    (&["P", "--block", "512"], Some("block=512,P,")),
-    (&["--block=512", "P"], Some("block=512,P,")),
-    (
-        &["P", "--guid", "0", "Q", "--block=1"],
-        Some("block=1,guid=0,P,Q,"),
-    ),
-    (&["--block", "-"], Some("block=-,")),
-    (&["--block=-x"], Some("block=-x,")),
-    (&["--block=--"], Some("block=--,")),
-    (&["--block=a=b"], Some("block=a=b,")),
-    (&["--block=="], Some("block==,")),
-    (&["--", "--block", "512"], Some("--block,512,")),
-    (&["--block", "1", "--", "--block"], Some("block=1,--block,")),
-    (&["P", "--", "--", "-x"], Some("P,--,-x,")),
-    (&["--block"], None),
-    (&["P", "--block"], None),
-    (&["--block", "-x"], None),
-    (&["--block", "--guid", "0"], None),
-    (&["--block", "--guid=0"], None),
-    (&["--block", "--", "512"], None),
-    (&["--block", ""], None),
-    (&["--block="], None),
-    (&["--block=", "P"], None),
-    (&["--block", "1", "--block", "2"], None),
-    (&["--block=1", "P", "--block=1"], None),
-    (&["--blocks", "1"], None),
-    (&["--bloc", "1"], None),
-    (&["--Block", "1"], None),
-    (&["-block", "1"], None),
-    (&["-b", "1"], None),
-    (&["--=1"], None),
-    (&["", "--block", "1"], None),
-];
-
-// Lines of a command with two options.
+// Lines of a command with two options, and what each gives.
 #[test]
 fn lines_with_options(rt: HostRuntime) -> Result<(), Fail> {
     let alloc = rt.alloc();
-    for (words, want) in &LINES {
-        let got = match read(alloc, NAMES.as_slice(), words) {
+    for (line, want) in [
+        ("--", Some("")),
+        ("P - Q", Some("P,-,Q,")),
+        ("--block 512 P", Some("block=512,P,")),
+        ("P --block 512", Some("block=512,P,")),
+        ("--block=512 P", Some("block=512,P,")),
+        ("P --guid 0 Q --block=1", Some("block=1,guid=0,P,Q,")),
+        ("--block -", Some("block=-,")),
+        ("--block=-x", Some("block=-x,")),
+        ("--block=--", Some("block=--,")),
+        ("--block=a=b", Some("block=a=b,")),
+        ("--block==", Some("block==,")),
+        ("-- --block 512", Some("--block,512,")),
+        ("--block 1 -- --block", Some("block=1,--block,")),
+        ("P -- -- -x", Some("P,--,-x,")),
+        ("--block", None),
+        ("P --block", None),
+        ("--block -x", None),
+        ("--block --guid 0", None),
+        ("--block --guid=0", None),
+        ("--block -- 512", None),
+        ("--block ", None),
+        ("--block=", None),
+        ("--block= P", None),
+        ("--block 1 --block 2", None),
+        ("--block=1 P --block=1", None),
+        ("--blocks 1", None),
+        ("--bloc 1", None),
+        ("--Block 1", None),
+        ("-block 1", None),
+        ("-b 1", None),
+        ("--=1", None),
+        (" --block 1", None),
+    ] {
+        let words = words_of(alloc, line)?;
+        let texts = texts_of(alloc, &words)?;
+        let got = match read(alloc, NAMES.as_slice(), texts.as_slice()) {
             Ok(matches) => Some(found(alloc, &matches)?),
             Err(_) => None,
         };
-        assert_eq!(rt; got.as_ref().map(|text| text.as_str()), *want, "{words:?}");
+        assert_eq!(rt; got.as_ref().map(|text| text.as_str()), want, "{line}");
     }
     Ok(())
 }
