@@ -1,10 +1,10 @@
 -- The words of a plan, and the plan of words.
-use Rattle.std.proofs.Common.{◌≡◌, ◌∙◌, ◌<◌, ◌&&◌, Bool, cond, true, false, refl, sym, ap, subst, List, [], ◌∷◌, length, nat_lt, Option, Some, None, codes, true≢false, lt-ltb, ltb-true}
+use Rattle.std.proofs.Common.{◌≡◌, ◌∙◌, ◌<◌, ◌&&◌, Bool, cond, true, false, refl, sym, ap, subst, List, [], ◌∷◌, length, Option, Some, None, codes, lt-ltb, ltb-true}
 use Rattle.std.specs.Prelude.{option_and_then}
 use Rattle.std.specs.Str.{bytes_eq}
 use Rattle.std.proofs.lemmas.Bool.{and_parts}
-use Rattle.command_words.specs.Forms.{IsPlan, check_by, check_plan, form_by, form_of, only, session_by, session_plan, words_for}
-use Rattle.command_words.specs.Lines.{Given, Line, Text, are_once, given_from, has_no_empty, line_by, line_of, options_of, positionals_of}
+use Rattle.command_words.specs.Forms.{IsPlan, check_by, check_plan, form_of, only, session_by, session_plan, words_for}
+use Rattle.command_words.specs.Lines.{Given, Text, are_once, given_from, has_no_empty, line_by, line_of, options_of, positionals_of}
 use Rattle.command_words.specs.declared.plan.Plan.{Plan}
 use Rattle.command_words.specs.declared.plan.Plan.TheVariants as plan
 

@@ -1,27 +1,26 @@
 -- What the parser finds is the line of the words, or it fails where they have none.
-use Rattle.std.proofs.Common.{◌≡◌, ◌∙◌, ◌⊎◌, ◌&&◌, ◌||◌, ◌+◌, ◌<◌, ℕ, Bool, cond, true, false, not, refl, sym, ap, ap₂, subst, List, [], ◌∷◌, ◌++◌, map, length, take, Option, Some, None, Result, Ok, Err, option_map, inl, inr, add-zero, true≢false}
+use Rattle.std.proofs.Common.{◌≡◌, ◌∙◌, ◌&&◌, ◌||◌, ◌+◌, ◌<◌, ℕ, Bool, cond, true, false, not, refl, sym, ap, ap₂, subst, List, [], ◌∷◌, ◌++◌, map, length, take, Option, Some, None, inl, inr, add-zero}
 use Rattle.std.specs.Prelude.{is_some, option_and_then}
 use Rattle.std.specs.Borrow.{Bor}
 use Rattle.std.specs.List.{AllByRecursion, fold, list_all, list_any, slice_index_or}
 use Rattle.std.specs.Str.{IsUtf8, bytes_eq}
 use Rattle.std.proofs.lemmas.List.{map-append, take_more}
-use Rattle.clap.specs.Walk.{Held, Row, Rule, Text, Walk, all_of, finished, first_of, has_row, idle, is_early_multiple, nothing_held, rows_after, rows_of, settled, walk, walk_from, with_default, default_rows}
+use Rattle.clap.specs.Walk.{Row, Rule, Text, Walk, all_of, first_of, has_row, idle, is_early_multiple, nothing_held, rows_after, rows_of, settled, walk, with_default}
 use Rattle.clap.specs.Simple.{App, HasMatchesOf, built, is_buildable, is_in_order, is_ready, is_ready_leaf, is_simple, matches_of, names_of, with_rule}
-use Rattle.clap.specs.Matches.{first_value, found_of, matched_of, raw_values}
-use Rattle.clap.specs.Kinds.{FailsBy, HasKind, IsAmong, Kinds, or_else}
+use Rattle.clap.specs.Matches.{found_of}
+use Rattle.clap.specs.Kinds.{HasKind, Kinds, or_else}
 use Rattle.clap.specs.Values.{kind_of}
-use Rattle.clap.specs.Faults.{built_fault, check_fault, default_fault, defaults_fault, fault_of, given_default_fault, is_free_app, is_simple_and_free, level_fault, settle_fault, walk_fault}
+use Rattle.clap.specs.Faults.{built_fault, check_fault, default_fault, defaults_fault, fault_of, given_default_fault, is_free_app, is_simple_and_free, settle_fault, walk_fault}
 use Rattle.clap.specs.Takes.{is_given}
 use Rattle.clap.specs.declared.error.Error.{Error}
 use Rattle.clap.specs.declared.error.kind.ErrorKind.TheVariants.{OutOfMemory}
-use Rattle.clap.specs.declared.parser.matches.Found.{Found}
 use Rattle.clap.specs.declared.parser.matches.ArgMatches.{ArgMatches}
 use Rattle.clap.proofs.WalkLemmas.{first_value-rows, raw_values-rows}
 use Rattle.clap.proofs.FaultLemmas.{leaf_fault}
 use Rattle.command_words.specs.Commands.{Shows, app_for, option_rule, positional_rule, values_or_none}
 use Rattle.command_words.specs.Lines.{Given, Line, are_names, are_once, given_from, has_no_empty, line_by, line_of, options_of, positional_name, positionals_of, value_in}
 use Rattle.command_words.proofs.Words.{built_option, built_positional, filled_rules, rules_for}
-use Rattle.command_words.proofs.Walks.{Agrees, AreKnown, Walks, all_fault, all_rows, last_rows, or_else_nil, pending_for, shape_for, state, total, walks}
+use Rattle.command_words.proofs.Walks.{Agrees, AreKnown, all_fault, last_rows, or_else_nil, shape_for, state, total, walks}
 use Rattle.command_words.proofs.Rows.{fault_test, is_none, none_is, shown}
 
 -- ---- the command is built, and simple

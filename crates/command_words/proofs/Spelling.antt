@@ -1,8 +1,7 @@
 -- What words give is what they spell.
-use Rattle.std.proofs.Common.{◌≡◌, ◌∙◌, ◌<◌, ◌&&◌, ◌||◌, ◌==◌, ◌+◌, ℕ, Bool, cond, true, false, not, suc, refl, sym, ap, ap₂, subst, arith, codes, List, [], ◌∷◌, ◌++◌, map, length, take, drop, Option, Some, None, append_assoc, true≢false, eqb-true, eq-eqb}
+use Rattle.std.proofs.Common.{◌≡◌, ◌∙◌, ◌||◌, ◌==◌, ◌+◌, ℕ, Bool, cond, true, false, suc, refl, sym, ap, ap₂, subst, arith, codes, List, [], ◌∷◌, ◌++◌, map, take, drop, Option, Some, None, append_assoc, true≢false, eqb-true, eq-eqb}
 use Rattle.std.specs.List.{AllByRecursion, after_first, before_first, flat_map, list_any, position_or_len}
-use Rattle.std.specs.Str.{bytes_eq}
-use Rattle.std.proofs.lemmas.Bool.{and_parts, not-true, ltb-true}
+use Rattle.std.proofs.lemmas.Bool.{and_parts, not-true}
 use Rattle.std.proofs.lemmas.List.Folds.{list_any_at}
 use Rattle.clap.proofs.CutLemmas.{Lacks, after_first-at, before_first-Lacks, before_first-at, list_any-at}
 use Rattle.command_words.specs.Lines.{Given, Text, are_names, given_by, given_from, has_name, is_equals, is_name, is_plain, kind_of, name_in, option, positional, positional_of, then_given, unknown, value_by, value_in_word}

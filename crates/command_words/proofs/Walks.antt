@@ -1,5 +1,5 @@
 -- The walk of the parser over the words, and what the words give.
-use Rattle.std.proofs.Common.{◌≡◌, ◌∙◌, ◌&&◌, ◌||◌, ◌==◌, ℕ, Bool, cond, true, false, not, refl, sym, ap, ap₂, subst, List, [], ◌∷◌, ◌++◌, map, length, Option, Some, None}
+use Rattle.std.proofs.Common.{◌≡◌, ◌∙◌, ◌&&◌, ℕ, Bool, cond, true, false, refl, sym, ap, ap₂, subst, List, [], ◌∷◌, map, Option, Some, None}
 use Rattle.std.specs.Bool.{⊤}
 use Rattle.std.specs.Prelude.{slice_get}
 use Rattle.std.specs.List.{AllByRecursion, fold}
@@ -12,7 +12,7 @@ use Rattle.clap.specs.Faults.{flags_fault, positional_fault, settle_fault, turn_
 use Rattle.clap.specs.declared.error.kind.ErrorKind.{ErrorKind}
 use Rattle.clap.specs.declared.error.kind.ErrorKind.TheVariants.{InvalidValue, UnknownArgument}
 use Rattle.command_words.specs.Lines.{Given, Text, are_names, given_by, given_from, has_name, positional_name, positional_of, then_given, value_by}
-use Rattle.command_words.proofs.Words.{Read, built_option, built_positional, name_is, none_by_long, none_by_short, not_positional, option_by_id, option_by_long, option_word, other_long, plain_word, read_of, rules_for, same_text, short_word, two_dashes}
+use Rattle.command_words.proofs.Words.{Read, built_positional, name_is, none_by_long, none_by_short, not_positional, option_by_id, option_by_long, option_word, other_long, plain_word, read_of, rules_for, same_text, short_word, two_dashes}
 
 -- ---- lists of kinds
 

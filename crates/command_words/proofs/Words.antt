@@ -1,16 +1,16 @@
 -- A word as the parser of command lines sees it, and as `kind_of` does.
-use Rattle.std.proofs.Common.{◌≡◌, ◌∙◌, ◌<◌, ◌&&◌, ◌||◌, ◌==◌, ℕ, Bool, cond, true, false, not, refl, sym, ap, arith, List, [], ◌∷◌, ◌++◌, map, length, drop, Option, Some, None, is_some, subst, true≢false, eqb-true}
-use Rattle.std.specs.Prelude.{slice_get, encode_utf8}
+use Rattle.std.proofs.Common.{◌≡◌, ◌∙◌, ◌&&◌, ◌||◌, ◌==◌, ℕ, Bool, cond, true, false, not, refl, sym, ap, arith, List, [], ◌∷◌, map, Option, Some, None, is_some, subst, true≢false, eqb-true}
+use Rattle.std.specs.Prelude.{slice_get}
 use Rattle.std.specs.List.{find, list_any, list_all}
 use Rattle.std.specs.Str.{IsUtf8, bytes_eq, chars}
 use Rattle.std.proofs.lemmas.Bool.{and_parts, not-true}
 use Rattle.std.proofs.lemmas.Slice.Eq.{bytes_eq-Decides}
 use Rattle.std.proofs.lemmas.Str.{IsUtf8-drop, IsCharBoundary-after_ascii, encodes-chars}
-use Rattle.clap.specs.Lexer.{long_of, short_of, name_and_value}
+use Rattle.clap.specs.Lexer.{long_of, short_of}
 use Rattle.clap.specs.Walk.{Rule, arg_by_id, arg_by_long, arg_by_short, has_long}
 use Rattle.clap.specs.Simple.{filled, filled_from, with_index}
 use Rattle.command_words.specs.Commands.{option_rule, positional_rule}
-use Rattle.command_words.specs.Lines.{Kind, Text, are_names, dash_kind, dashes, has_name, is_name, is_plain, kind_of, long_kind, name_in, option, positional, positional_name, unknown, value_in_word}
+use Rattle.command_words.specs.Lines.{Text, are_names, has_name, is_name, is_plain, kind_of, name_in, option, positional, positional_name, unknown, value_in_word}
 
 -- ---- the rules of a command that is built
 

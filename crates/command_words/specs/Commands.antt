@@ -1,5 +1,5 @@
 -- A command as the parser of command lines sees it, and what it finds. No public clause cites this.
-use Rattle.std.specs.Prelude.{◌≡◌, false, true, List, [], ◌∷◌, map, Option, Some, None, option_map, codes}
+use Rattle.std.specs.Prelude.{◌≡◌, false, true, List, [], ◌∷◌, map, Option, Some, None, option_map}
 use Rattle.std.specs.Str.{bytes_eq}
 use Rattle.clap.specs.Walk.{Rule}
 use Rattle.clap.specs.Simple.{App, new_app, new_rule}
