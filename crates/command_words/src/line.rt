@@ -1,13 +1,13 @@
 //! The one call of the parser of command lines.
 
-ghost use Rattle.std.specs.Prelude.{◌≡◌, ◌≢◌, ◌⊎◌, List, None, Some, IfOk, MatchResult, false, map, option_map, true};
+ghost use Rattle.std.specs.Prelude.{◌≡◌, ◌≢◌, ◌⊎◌, List, None, Some, IfOk, MatchResult, false, map, true};
 ghost use Rattle.std.specs.List.{AllByRecursion};
 ghost use Rattle.std.specs.Str.{IsUtf8};
-ghost use Rattle.clap.specs.Matches.{found_of, matched_of, raw_values};
+ghost use Rattle.clap.specs.Matches.{found_of};
 ghost use Rattle.clap.specs.Simple.{app_of};
 ghost use Rattle.clap.specs.Walk.{rule_of};
-ghost use Rattle.command_words.specs.Commands.{Shows, app_for, option_rule, values_or_none};
-ghost use Rattle.command_words.specs.Lines.{Line, are_names, line_of, positional_name};
+ghost use Rattle.command_words.specs.Commands.{Shows, app_for, option_rule};
+ghost use Rattle.command_words.specs.Lines.{Line, are_names, line_of};
 
 use crate::plan::Usage;
 use clap::builder::ValueParser;

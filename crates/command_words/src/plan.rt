@@ -1,4 +1,4 @@
-ghost use Rattle.std.specs.Prelude.{◌≡◌, IfOk, List, [], map, option_and_then};
+ghost use Rattle.std.specs.Prelude.{◌≡◌, IfOk, [], map, option_and_then};
 ghost use Rattle.std.specs.List.{AllByRecursion};
 ghost use Rattle.std.specs.Str.{IsUtf8};
 ghost use Rattle.command_words.specs.Forms.{Answers, check_plan, form_by, form_of, session_plan};

@@ -7,10 +7,9 @@ mod commands;
 mod run;
 mod status;
 
-pub use command_words::{Plan, Usage, Word, plan_of};
-
 use crate::run::run;
 use crate::status::Status;
+pub use command_words::{Plan, Usage, Word, plan_of};
 use srv_edge::{FileDevice, StdIn, StdOut};
 use std::alloc::Global;
 use std::fs::File;
