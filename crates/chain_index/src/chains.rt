@@ -1,4 +1,4 @@
-ghost use Rattle.std.specs.Prelude.{◌≡◌, ◌≤◌, ◌<◌, ◌+◌, ◌^◌, ◌↔◌, [], ◌∷◌, IfOk, IsOk, IsTrue, MatchOption, OnErr, OnOk, length, slice_get};
+ghost use Rattle.std.specs.Prelude.{◌≡◌, ◌≤◌, ◌<◌, ◌+◌, ◌^◌, ◌↔◌, [], ◌∷◌, IfOk, IsOk, IsTrue, MatchOption, OnErr, OnOk, length, slice_get, slice_index};
 ghost use Rattle.chain_index.specs.Chains.{bucket_in, chain_behind, chain_of, heads_for, linked};
 
 use crate::links::{FIRST_HEADS, heads_for, link_last};
@@ -102,6 +102,14 @@ impl Chains {
             MatchOption result (chain ≡ []) (λ k. chain ≡ k ∷ chain_behind self.now.hashes k) }
     {
         self.nexts[number as usize]
+    }
+
+    /// The hash of a record.
+    pub fn hash_of(&self, number: u32) -> u32
+        requires { number < length self.now.hashes }
+        ensures { result ≡ slice_index self.now.hashes number }
+    {
+        self.hashes[number as usize]
     }
 
     /// How many heads there are.

@@ -4,15 +4,12 @@
 ghost use Rattle.std.specs.Prelude.{◌≡◌, IfOk, IsSome};
 
 mod commands;
-mod plan;
 mod run;
 mod status;
-mod word;
 
-use crate::plan::{Plan, Usage, plan_of};
 use crate::run::run;
 use crate::status::Status;
-use crate::word::Word;
+pub use command_words::{Plan, Usage, Word, plan_of};
 use srv_edge::{FileDevice, StdIn, StdOut};
 use std::alloc::Global;
 use std::fs::File;

@@ -1,16 +1,15 @@
-ghost use Rattle.std.specs.Prelude.{◌≡◌, ◌≢◌, ◌↔◌, ℕ, List, None, Some, IsSome};
+ghost use Rattle.std.specs.Prelude.{◌≡◌, ◌≢◌, ◌⊎◌, ℕ, List, None, Some, IsSome};
+ghost use Rattle.command_words.specs.Forms.{form_of};
 ghost use Rattle.srv_edge.specs.Count.{HasCause};
 ghost use Rattle.srv_edge.specs.Reading.{OnlyReads};
 ghost use Rattle.mspdbsrv.specs.Check.{CompletesCheck, IsCheck};
 ghost use Rattle.mspdbsrv.specs.Run.{IsEarly, IsUnread, IsUnsent};
 ghost use Rattle.mspdbsrv.specs.Session.{CompletesSession, RunsSession};
-ghost use Rattle.mspdbsrv.specs.Words.{form_of};
 
 use crate::commands::check::check;
 use crate::commands::session::session;
-use crate::plan::{Plan, Usage, plan_of};
 use crate::status::Status;
-use crate::word::Word;
+use command_words::{Plan, Usage, Word, plan_of};
 use srv_edge::{Device, Sink, Source};
 use std::alloc::Global;
 use std::hash::RandomState;
@@ -28,7 +27,10 @@ pub fn run<S: Source, K: Sink, D: Device>(
     mut device: D,
 ) -> (Status, D)
     requires { form_of words.now ≡ Some Plan.Session → IsSome keys }
-    ensures usage { (result.0 ≡ Status.Usage) ↔ (form_of words.now ≡ None) }
+    // The words are no form: that yields to want of memory alone.
+    ensures usage { result.0 ≡ Status.Usage → form_of words.now ≡ None }
+    ensures no_form { form_of words.now ≡ None
+        → (result.0 ≡ Status.Usage) ⊎ (result.0 ≡ Status.OutOfMemory) }
 
     // In `session` these bytes came and these went, and they are a session over empty tables.
     ensures session { form_of words.now ≡ Some Plan.Session

@@ -29,8 +29,17 @@ other_record x r heads other =
 hash_at : (records : List (List ℕ)) (i : ℕ) → i < length records → slice_index (hashes_of records) i ≡ record_hash (get_or records i [])
 hash_at records i low = get_or-map record_hash records i [] 0 low
 
-length-hashes : (records : List (List ℕ)) → length (hashes_of records) ≡ length records
+pub length-hashes : (records : List (List ℕ)) → length (hashes_of records) ≡ length records
 length-hashes records = length-map records record_hash
+
+-- a record with another hash is another record
+pub other_hash : (records : List (List ℕ)) (r hashes : List ℕ) (hash k : ℕ) → hashes ≡ hashes_of records → hash ≡ record_hash r → k < length records
+    → slice_index hashes k ≢ hash → IfSome (slice_get records k) (λ x. false ≡ bytes_eq x r)
+other_hash records r hashes hash k these of low other =
+    let here : slice_index hashes k ≡ record_hash (get_or records k []) = ap (λ xs. slice_index xs k) these ∙ hash_at records k low in
+    let differs : bytes_eq (get_or records k []) r ≡ false =
+    false_from_ne_true (bytes_eq (get_or records k []) r) (λ same. other (here ∙ ap record_hash ((bytes_eq-Decides (get_or records k []) r).0 same) ∙ sym of)) in
+    subst (λ (o : Option (List ℕ)). IfSome o (λ x. false ≡ bytes_eq x r)) (sym (slice_get-get_or records k [] low)) (sym differs)
 
 -- two steps further are one
 shifted : (o : Option ℕ) (m : ℕ) → option_map (λ place. place + m) (option_map (λ place. place + 1) o) ≡ option_map (λ place. place + suc m) o

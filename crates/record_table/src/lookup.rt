@@ -31,7 +31,7 @@ pub fn find_in<L: Ledger>(
     let mut at = chains.head(hash);
     while let Some(number) = at {
         steps.tick();
-        if is_at(records, number, bytes) {
+        if is_at(records, chains, number, hash, bytes) {
             found = Some(number);
         }
         at = chains.next(number);
@@ -39,11 +39,17 @@ pub fn find_in<L: Ledger>(
     found
 }
 
-// Whether the record of a number is this one.
-fn is_at(records: &RecordList, number: u32, bytes: &[u8]) -> bool
-    requires { number < length records.now }
+// Whether the record of a number is this one, which has this hash. Its bytes are read only where its
+// hash is the same.
+fn is_at(records: &RecordList, chains: &Chains, number: u32, hash: u32, bytes: &[u8]) -> bool
+    requires there { number < length records.now }
+    requires hashes { chains.now.hashes ≡ hashes_of records.now }
+    requires hash { hash ≡ record_hash bytes.now }
     ensures { IfSome (slice_get records.now number) (λ r. result ≡ bytes_eq r bytes.now) }
 {
+    if chains.hash_of(number) != hash {
+        return false;
+    }
     match records.get(number) {
         Some(record) => record == bytes,
         None => false,

@@ -54,7 +54,8 @@ impl RecordTable {
         })
     }
 
-    /// The least index of an equal record. A step is one comparison with a record of the table.
+    /// The least index of an equal record. A step is one record that the search meets; its bytes are
+    /// compared where its hash is the same.
     pub fn find<L: Ledger>(&self, bytes: &[u8], steps: &mut Steps<L>) -> Option<u32>
         requires { steps.old < 2 ^ 62 }
         ensures index { result ≡ index_of self.now bytes.now }

@@ -2,10 +2,9 @@
 //! failing.
 
 use crate::device_of;
-use crate::plan::plan_of;
 use crate::run::run;
 use crate::status::Status;
-use crate::word::Word;
+use command_words::{Word, plan_of};
 use msf_image::{DamageKind, is_packable, new_file};
 use srv_edge::{FileDevice, MemDevice, MemSink, MemSource, Text};
 use std::alloc::Global;

@@ -5,7 +5,7 @@ ghost use Rattle.std.specs.Prelude.{◌<◌, ◌≡◌, true};
 use crate::commands::version_tests::in_version_2;
 use crate::run::run;
 use crate::status::Status;
-use crate::word::Word;
+use command_words::Word;
 use srv_edge::{Failed, FileDevice, MemSink, MemSource, Sink};
 use std::alloc::Global;
 use std::fs::File;

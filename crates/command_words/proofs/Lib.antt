@@ -1,0 +1,6 @@
+mod Words
+mod Walks
+mod Rows
+pub mod Reading
+pub mod Spelling
+pub mod Plans

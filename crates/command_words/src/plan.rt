@@ -1,0 +1,94 @@
+ghost use Rattle.std.specs.Prelude.{◌≡◌, IfOk, [], map, option_and_then};
+ghost use Rattle.std.specs.List.{AllByRecursion};
+ghost use Rattle.std.specs.Str.{IsUtf8};
+ghost use Rattle.command_words.specs.Forms.{Answers, check_plan, form_by, form_of, session_plan};
+ghost use Rattle.command_words.specs.Lines.{line_of};
+ghost use Rattle.command_words.specs.declared.plan.Usage.TheVariants.{OutOfMemory};
+
+use crate::line::{POSITIONAL, read};
+use crate::word::Word;
+use std::alloc::{AllocError, Global};
+
+/// What the words of a command line ask for.
+#[derive(Drop)]
+pub enum Plan {
+    /// Serve standard input over empty tables.
+    Session,
+    /// Read a file as its container, and print what it reads as.
+    Check { path: Word },
+}
+
+/// Why words have no plan.
+#[derive(Clone, Copy, Debug, PartialEq, Eq)]
+pub enum Usage {
+    /// The words are no form of the program.
+    NotAForm,
+    OutOfMemory,
+}
+
+impl From<AllocError> for Usage {
+    ghost from_gives = { λ _ why. why ≡ OutOfMemory };
+
+    fn from(_e: AllocError) -> Usage {
+        Usage::OutOfMemory
+    }
+}
+
+/// The plan that words stand for. The program's own name is not among them.
+pub fn plan_of(alloc: Global, words: &[Word]) -> Result<Plan, Usage>
+    ensures { Answers (form_of words.now) result }
+{
+    let texts = texts_of(alloc, words)?;
+    match texts.as_slice() {
+        [command, words @ ..] => plan_by(alloc, command, words),
+        [] => Err(Usage::NotAForm),
+    }
+}
+
+/// The words as texts.
+pub(crate) fn texts_of<'a>(alloc: Global, words: &'a [Word]) -> Result<Vec<&'a str>, AllocError>
+    ensures same { IfOk result (λ texts. map (λ w. w.now) texts.items ≡ words.now) }
+    ensures texts { IfOk result (λ texts. AllByRecursion IsUtf8 (map (λ w. w.now) texts.items)) }
+{
+    let mut texts = Vec::with_capacity(alloc, words.len())?;
+    for word in words {
+        texts.push(word.as_str())?;
+    }
+    Ok(texts)
+}
+
+fn plan_by<'a>(alloc: Global, command: &str, words: &'a [&'a str]) -> Result<Plan, Usage>
+    requires { AllByRecursion IsUtf8 (map (λ w. w.now) words.now) }
+    ensures { Answers (form_by command.now (map (λ w. w.now) words.now)) result }
+{
+    match command {
+        "session" => session(alloc, words),
+        "check" => check(alloc, words),
+        _ => Err(Usage::NotAForm),
+    }
+}
+
+fn session<'a>(alloc: Global, words: &'a [&'a str]) -> Result<Plan, Usage>
+    requires { AllByRecursion IsUtf8 (map (λ w. w.now) words.now) }
+    ensures { Answers (option_and_then session_plan (line_of [] (map (λ w. w.now) words.now)))
+        result }
+{
+    let matches = read(alloc, &[], words)?;
+    match matches.get_strs(POSITIONAL) {
+        None | Some([]) => Ok(Plan::Session),
+        Some(_) => Err(Usage::NotAForm),
+    }
+}
+
+fn check<'a>(alloc: Global, words: &'a [&'a str]) -> Result<Plan, Usage>
+    requires { AllByRecursion IsUtf8 (map (λ w. w.now) words.now) }
+    ensures { Answers (option_and_then check_plan (line_of [] (map (λ w. w.now) words.now)))
+        result }
+{
+    let matches = read(alloc, &[], words)?;
+    let Some([path]) = matches.get_strs(POSITIONAL) else {
+        return Err(Usage::NotAForm);
+    };
+    let path = Word::new(String::from_str(alloc, path)?);
+    Ok(Plan::Check { path })
+}
