@@ -148,7 +148,7 @@ map_each P s holds k d lt =
     let there : k < n = omega (arith, lt, length-map-range_with_len (map_block s.block s.map) 0 n) in
     subst P (sym (get_or-map-range_with_len (map_block s.block s.map) 0 n k k d there (omega arith))) (holds k)
 
-source_behind : (file : List ℕ) (limit : ℕ) (image : Image) (streams : List (Option (List ℕ))) → Reads file limit image streams → All (λ b. 1 ≤ b) (source_blocks file image)
+pub source_behind : (file : List ℕ) (limit : ℕ) (image : Image) (streams : List (Option (List ℕ))) → Reads file limit image streams → All (λ b. 1 ≤ b) (source_blocks file image)
 source_behind file limit image streams r =
     let s = image.head in
     All-append (λ b. 1 ≤ b) (used_in file image) (active_map_blocks s)

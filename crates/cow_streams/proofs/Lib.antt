@@ -1,0 +1,6 @@
+pub mod Lists
+pub mod Supplying
+pub mod Joined
+pub mod Numbering
+pub mod Editing
+pub mod Contents

@@ -1,0 +1,5 @@
+pub mod Edits
+pub mod Supply
+pub mod Layout
+pub mod Planned
+pub mod Plan
