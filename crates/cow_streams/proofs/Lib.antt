@@ -4,3 +4,5 @@ pub mod Joined
 pub mod Numbering
 pub mod Editing
 pub mod Contents
+pub mod Usable
+pub mod Wholeness

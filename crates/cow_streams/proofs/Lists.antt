@@ -140,3 +140,8 @@ split_three w d xs len =
         all : (ys : List ℕ) → drop (length ys) ys ≡ []
         all [] = refl
         all (y ∷ ys) = all ys
+
+pub each_at : {X : Type 0} (P : X → Type 0) (xs : List X) (k : ℕ) (d : X) → AllByRecursion P xs → k < length xs → P (get_or xs k d)
+each_at P [] k d h lt = absurd (omega (arith, lt))
+each_at P (x ∷ xs) zero d h lt = h.0
+each_at P (x ∷ xs) (suc k) d h lt = each_at P xs k d h.1 (omega (arith, lt))
