@@ -6,3 +6,6 @@ pub mod Editing
 pub mod Contents
 pub mod Usable
 pub mod Wholeness
+pub mod Writes
+pub mod Turning
+pub mod Standing

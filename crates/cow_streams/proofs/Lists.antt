@@ -145,3 +145,7 @@ pub each_at : {X : Type 0} (P : X → Type 0) (xs : List X) (k : ℕ) (d : X) �
 each_at P [] k d h lt = absurd (omega (arith, lt))
 each_at P (x ∷ xs) zero d h lt = h.0
 each_at P (x ∷ xs) (suc k) d h lt = each_at P xs k d h.1 (omega (arith, lt))
+
+pub distinct_append : (xs ys : List ℕ) → Distinct xs → Distinct ys → AllByRecursion (λ x. Misses ys x) xs → Distinct (xs ++ ys)
+distinct_append [] ys one two across = two
+distinct_append (x ∷ xs) ys one two across = (each_append (λ y. y ≡ x → ⊥) xs ys one.0 across.0, distinct_append xs ys one.1 two across.1)

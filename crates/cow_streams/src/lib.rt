@@ -3,7 +3,9 @@
 #![tactic(auto)]
 
 mod fault;
+mod laws;
 mod write;
 
 pub use crate::fault::{PlanFault, Which};
+pub use crate::laws::{plan_of_a_file, planned_is_plan};
 pub use crate::write::BlockWrite;
