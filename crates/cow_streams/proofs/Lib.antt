@@ -9,3 +9,5 @@ pub mod Wholeness
 pub mod Writes
 pub mod Turning
 pub mod Standing
+pub mod Loops
+pub mod LayoutLoops

@@ -83,3 +83,8 @@ layouts_from block_size edits i (x ∷ streams) = layout_of block_size edits i x
 unfoldable pub layouts : ℕ → List StreamEdit → List (Option StreamBlocks) → List (Option Layout)
 layouts block_size edits [] = []
 layouts block_size edits (x ∷ streams) = Some (record { size = 0; parts = [] }) ∷ layouts_from block_size edits 1 streams
+
+-- what stands for stream 0, if there is one
+abbrev pub first_laid : List (Option StreamBlocks) → List (Option StreamBlocks)
+first_laid [] = []
+first_laid (x ∷ streams) = Some (record { size = 0; blocks = [] }) ∷ []

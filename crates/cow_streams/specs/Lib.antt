@@ -3,3 +3,4 @@ pub mod Supply
 pub mod Layout
 pub mod Planned
 pub mod Plan
+pub mod Freeing

@@ -2,8 +2,13 @@
 //! the superblock turns.
 #![tactic(auto)]
 
+mod counting;
+mod edits;
 mod fault;
+mod freeing;
+mod giving;
 mod laws;
+mod laying;
 mod write;
 
 pub use crate::fault::{PlanFault, Which};
