@@ -6,14 +6,15 @@ use Rattle.std.proofs.lemmas.List.{append_assoc, append-nil, drop-drop, get_or-d
 use Rattle.std.proofs.lemmas.List.FromFn.{length-map-range_with_len, map-range_with_len_more, take-map-range_with_len}
 use Rattle.std.proofs.lemmas.Nat.{div-add-mod', div-mul-add, div_below}
 use Rattle.std.proofs.Math.Nat.{suc-mul}
-use Rattle.msf_blocks.specs.Blocks.{IsBlockSize, blocks_of_size}
+use Rattle.msf_blocks.specs.declared.superblock.Super.{Super}
+use Rattle.msf_blocks.specs.Blocks.{IsBlockSize, blocks_of_size, map_block}
 use Rattle.msf_blocks.specs.Edit.{StreamEdit}
 use Rattle.msf_blocks.proofs.Sizes.{sized}
 use Rattle.stream_directory.specs.Directory.{IsSized, StreamBlocks}
 use Rattle.msf_image.specs.Packed.{block_of}
 use Rattle.cow_streams.specs.Edits.{IsCovered, edit_at, len_after}
 use Rattle.cow_streams.specs.Layout.{Layout, Part, kept, fresh, all_parts, first_laid, laid, laid_one, layout_of, layouts, layouts_from, numbers, part_at, part_by, parts_in, parts_of, parts_to, pieces}
-use Rattle.cow_streams.specs.Planned.{Write, writes_to}
+use Rattle.cow_streams.specs.Planned.{Write, blocks_of, writes_to}
 use Rattle.cow_streams.proofs.Contents.{below_count, block_begins, covered_inside}
 use Rattle.cow_streams.proofs.Numbering.{length-writes_to, numbers-append, pieces-append, writes-append}
 use Rattle.cow_streams.proofs.Wholeness.{length-layouts}
@@ -204,3 +205,41 @@ edit_block size at k h le =
     let least = (sized size h).least in
     let below = div_below at size (k + 1) (omega (arith, least)) (omega (arith, le, least, suc-mul k size)) in
     omega (arith, below)
+
+-- ---- blocks of other bytes
+
+pub text_step : (xs : List (List ℕ)) (x : List ℕ) (given : List ℕ) (w n b : ℕ) (old now : List Write) → n ≡ w + length xs → now ≡ old ++ writes_to xs (drop w given) → b ≡ get_or given n 0
+    → now ++ record { block = b; bytes = x } ∷ [] ≡ old ++ writes_to (xs ++ x ∷ []) (drop w given)
+text_step xs x given w n b old now same so_far at =
+    let last = writes_to (x ∷ []) (drop (length xs) (drop w given)) in
+    let none : n ≡ n + 0 = omega arith in
+    let first : b ≡ get_or (drop (length xs) (drop w given)) 0 0 = at ∙ ap (λ m. get_or given m 0) none ∙ sym (get_or-drop n given 0 0) ∙ ap (λ rest. get_or rest 0 0) (drop_on w n (length xs) given same) in
+    ap (λ ws. ws ++ record { block = b; bytes = x } ∷ []) so_far ∙ append_assoc old (writes_to xs (drop w given)) (record { block = b; bytes = x } ∷ [])
+    ∙ ap (λ ws. old ++ ws) (ap (λ m. writes_to xs (drop w given) ++ record { block = m; bytes = x } ∷ []) first ∙ sym (writes-append xs (x ∷ []) (drop w given)))
+
+pub text_count : (xs : List (List ℕ)) (blocks : List ℕ) (old now : List Write) → now ≡ old ++ writes_to xs blocks → length now ≡ length old + length xs
+text_count xs blocks old now is = ap length is ∙ length-append old (writes_to xs blocks) ∙ ap (λ n. length old + n) (length-writes_to xs blocks)
+
+-- a few words take one block
+pub one_block : (size n : ℕ) → IsBlockSize size → 0 < n → n ≤ size → blocks_of_size size n ≡ 1
+one_block size n h some few =
+    let place : n + (size - 1) ≡ 1 * size + (n - 1) = omega (arith, some, few) in
+    ap (λ m. m / size) place ∙ div-mul-add 1 size (n - 1) (omega (arith, some, few))
+
+pub map_step : {X : Type 0} (f : ℕ → X) (j : ℕ) (x : X) (old now : List X) → now ≡ old ++ map f (range_with_len 0 j) → x ≡ f j → now ++ x ∷ [] ≡ old ++ map f (range_with_len 0 (j + 1))
+map_step f j x old now so_far is =
+    ap (λ xs. xs ++ x ∷ []) so_far ∙ append_assoc old (map f (range_with_len 0 j)) (x ∷ []) ∙ ap (λ y. old ++ (map f (range_with_len 0 j) ++ y ∷ [])) is
+    ∙ ap (λ xs. old ++ xs) (sym (map-range_with_len_more f 0 j j (omega arith)))
+
+abbrev pub map_write : Super → List ℕ → ℕ → Write
+map_write s text j = record { block = map_block s.block s.map j; bytes = block_of s.block text j }
+
+-- writes behind others, and more behind these
+pub writes_two : (xs ys : List (List ℕ)) (given : List ℕ) (old now : List Write) → now ≡ old ++ writes_to xs (drop (length old) given) → now ++ writes_to ys (drop (length now) given) ≡ old ++ writes_to (xs ++ ys) (drop (length old) given)
+writes_two xs ys given old now so_far =
+    let rest = drop (length old) given in
+    ap (λ ws. ws ++ writes_to ys (drop (length now) given)) so_far ∙ append_assoc old (writes_to xs rest) (writes_to ys (drop (length now) given))
+    ∙ ap (λ ws. old ++ ws) (ap (λ more. writes_to xs rest ++ writes_to ys more) (drop_on (length old) (length now) (length xs) given (text_count xs rest old now so_far)) ∙ sym (writes-append xs ys rest))
+
+pub one_cut : (size : ℕ) (bytes : List ℕ) → blocks_of_size size (length bytes) ≡ 1 → blocks_of size bytes ≡ block_of size bytes 0 ∷ []
+one_cut size bytes is = ap (λ n. map (block_of size bytes) (range_with_len 0 n)) is

@@ -11,3 +11,4 @@ pub mod Turning
 pub mod Standing
 pub mod Loops
 pub mod LayoutLoops
+pub mod Outcome

@@ -16,7 +16,7 @@ use Rattle.cow_streams.specs.Planned.{FitsDirectory, Stands, block_writes, given
 use Rattle.cow_streams.proofs.Lists.{each_weaker}
 use Rattle.cow_streams.proofs.Numbering.{length-numbers, number_kept}
 use Rattle.cow_streams.proofs.Turning.{keeps_old, takes_new}
-use Rattle.cow_streams.proofs.Wholeness.{is_whole}
+use Rattle.cow_streams.proofs.Wholeness.{is_complete, is_whole}
 use Rattle.cow_streams.proofs.Writes.{all_sparing, all_stand, blocks_once, kept_unwritten, rising}
 
 -- ---- blocks that keep their numbers
@@ -57,6 +57,7 @@ shares_planned old edits i some = shares_all old.head.block edits old.directory 
 -- ---- the plan
 
 pub plan_is : (limit : ℕ) (old : Image) (edits : List StreamEdit) → IsWhole old → AreEdits old.head.block old.directory edits → limit < 2 ^ 32 → FitsDirectory old edits → new_blocks old edits ≤ limit → IsPlan limit old edits (planned old edits)
+unfolding is_whole
 plan_is limit old edits whole are fits directory few =
     let p = planned old edits in
     let size = old.head.block in
@@ -66,6 +67,7 @@ plan_is limit old edits whole are fits directory few =
     record {
       whole = is_whole old edits limit whole are fits directory few;
       limited = few;
+      complete = is_complete old edits;
       block = refl;
       unknown = refl;
       other_map = refl;

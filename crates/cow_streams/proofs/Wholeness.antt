@@ -2,7 +2,7 @@
 use Rattle.std.proofs.Common.{◌≡◌, ◌≤◌, ◌<◌, ◌+◌, ◌-◌, ◌*◌, ◌/◌, ◌%◌, ◌^◌, ◌++◌, ◌⊎◌, ◌&&◌, not, ℕ, zero, suc, Bool, true, false, List, [], ◌∷◌, length, map, take, drop, get_or, All, Option, Some, None, refl, sym, ap, subst, ◌∙◌, inl, inr, eqb, arith}
 use Rattle.std.specs.List.{AllByRecursion, flat_map, list_any, range_with_len}
 use Rattle.std.specs.List.Sorted.{IsStrictlyIncreasing}
-use Rattle.std.proofs.lemmas.Bool.{and_right, both_ways, eq-eqb}
+use Rattle.std.proofs.lemmas.Bool.{and_right, both_ways, cases_Bool, eq-eqb, false_from_ne_true}
 use Rattle.std.proofs.lemmas.List.{length-append, length-drop, length-take-le}
 use Rattle.std.proofs.lemmas.List.Elements.{All-filter, recursion_from_All}
 use Rattle.std.proofs.lemmas.List.Folds.{list_any_at}
@@ -273,7 +273,7 @@ module _ (old : Image) (edits : List StreamEdit) where
 
   -- ---- the image
 
-  is_directory : IsWhole old → AreEdits old.head.block old.directory edits → IsDirectory (new_head old edits) (new_map_addr old edits ∷ new_listed old edits) (new_directory old edits)
+  pub is_directory : IsWhole old → AreEdits old.head.block old.directory edits → IsDirectory (new_head old edits) (new_map_addr old edits ∷ new_listed old edits) (new_directory old edits)
   is_directory whole are = record { few = few_streams whole; sized = is_sized whole are; usable = streams_usable whole are }
 
   pub none_free : IsWhole old → AreEdits old.head.block old.directory edits → All (λ b. is_free (new_free old edits) b ≡ false) (used_blocks (new_map_addr old edits ∷ new_listed old edits) (new_directory old edits))
@@ -286,19 +286,19 @@ module _ (old : Image) (edits : List StreamEdit) where
   unfolding new_free
   free_blocks = refl
 
-  free_inside : All (λ b. b < new_blocks old edits) (new_free old edits).free
+  pub free_inside : All (λ b. b < new_blocks old edits) (new_free old edits).free
   unfolding new_free
   free_inside = where_inside (new_blocks old edits) _
 
-  free_unreserved : All (λ b. ¬ IsReserved old.head.block b) (new_free old edits).free
+  pub free_unreserved : All (λ b. ¬ IsReserved old.head.block b) (new_free old edits).free
   unfolding new_free
   free_unreserved = unreserved_where-unreserved old.head.block (new_blocks old edits) _
 
-  free_rising : IsStrictlyIncreasing (new_free old edits).free
+  pub free_rising : IsStrictlyIncreasing (new_free old edits).free
   unfolding new_free
   free_rising = where_rising (new_blocks old edits) _
 
-  pub is_whole : (limit : ℕ) → IsWhole old → AreEdits old.head.block old.directory edits → limit < 2 ^ 32 → FitsDirectory old edits → new_blocks old edits ≤ limit → IsWhole (new_image old edits)
+  unfoldable pub is_whole : (limit : ℕ) → IsWhole old → AreEdits old.head.block old.directory edits → limit < 2 ^ 32 → FitsDirectory old edits → new_blocks old edits ≤ limit → IsWhole (new_image old edits)
   is_whole limit whole are fits directory few = record {
     head = is_super limit whole fits directory few;
     blocks = new_listed old edits;
@@ -311,3 +311,15 @@ module _ (old : Image) (edits : List StreamEdit) where
     unreserved = free_unreserved;
     rising = free_rising;
   }
+
+  -- every unreserved block is used or free
+  pub is_complete : (b : ℕ) → b < new_blocks old edits → ¬ IsReserved old.head.block b
+      → (is_free (new_free old edits) b ≡ true) ⊎ (list_any (λ x. eqb x b) (used_blocks (new_map_addr old edits ∷ new_listed old edits) (new_directory old edits)) ≡ true)
+  unfolding new_free
+  is_complete b lt unreserved =
+      let used = list_any (λ x. eqb x b) (used_blocks (new_map_addr old edits ∷ new_listed old edits) (new_directory old edits)) in
+      let is = is_free-below_where (new_blocks old edits) (λ b. not (is_reserved old.head.block b) && not (list_any (λ x. eqb x b) (used_blocks (new_map_addr old edits ∷ new_listed old edits) (new_directory old edits)))) b lt in
+      elim (cases_Bool used) [
+        | inl is_used ↦ inr is_used
+        | inr not_used ↦ inl (is ∙ ap (λ t. not t && not used) (false_from_ne_true (is_reserved old.head.block b) unreserved) ∙ ap (λ t. not t) not_used)
+      ]

@@ -1,13 +1,16 @@
 -- What a writer may rest on, of any plan.
-use Rattle.std.specs.Prelude.{◌≡◌, ◌≤◌, ◌<◌, ℕ, ◌-◌, ◌*◌, List, ◌++◌, length, map, take, slice_index, All, Option, Some, None}
+use Rattle.std.specs.Prelude.{◌≡◌, ◌≤◌, ◌<◌, ◌⊎◌, ℕ, ◌-◌, ◌*◌, ◌==◌, true, List, ◌∷◌, ◌++◌, length, map, take, slice_index, All, Option, Some, None}
+use Rattle.std.specs.List.{list_any}
 use Rattle.std.specs.List.Sorted.{IsStrictlyIncreasing}
 use Rattle.msf_blocks.specs.declared.superblock.Super.{Super}
+use Rattle.msf_blocks.specs.Blocks.{IsReserved}
 use Rattle.msf_blocks.specs.Edit.{StreamEdit}
 use Rattle.msf_blocks.specs.Superblock.{superblock_text}
+use Rattle.free_page_maps.specs.FreeBlocks.{is_free}
 use Rattle.free_page_maps.specs.MapText.{map_text}
 use Rattle.stream_directory.specs.Directory.{StreamBlocks, stream_at}
 use Rattle.msf_image.specs.declared.image.Image.{Image}
-use Rattle.msf_image.specs.Reads.{HasBlocks, IsWhole, block_bytes}
+use Rattle.msf_image.specs.Reads.{HasBlocks, IsWhole, block_bytes, used_blocks}
 use Rattle.msf_image.specs.Relation.{IsSpare, Reads}
 use Rattle.cow_streams.specs.Edits.{edit_at, edited}
 use Rattle.cow_streams.specs.Planned.{Planned, Stands, Write, kept_blocks, map_writes, with_writes}
@@ -50,6 +53,10 @@ pub record IsPlan (limit : ℕ) (old : Image) (edits : List StreamEdit) (p : Pla
   -- the new image may be planned on in turn, and keeps the block size and the number without a known meaning
   pub whole : IsWhole p.image
   pub limited : p.image.head.blocks ≤ limit
+  -- an unreserved block of the new file is used or free
+  pub complete : (b : ℕ) → b < p.image.head.blocks → ¬ IsReserved p.image.head.block b
+      → (is_free p.image.free b ≡ true)
+      ⊎ (list_any (λ x. x == b) (used_blocks (p.image.head.map_addr ∷ whole.blocks) p.image.directory) ≡ true)
   pub block : p.image.head.block ≡ old.head.block
   pub unknown : p.image.head.unknown ≡ old.head.unknown
   pub other_map : p.image.head.map ≡ 3 - old.head.map

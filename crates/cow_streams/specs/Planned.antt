@@ -42,6 +42,11 @@ map_writes s text =
 abbrev pub image_of : Super → List (Option StreamBlocks) → FreeBlocks → Image
 image_of head directory free = record { head = head; directory = directory; free = free }
 
+-- Every unreserved block of a file with this superblock that is none of the block map, the blocks listed for the directory,
+-- and those of the streams.
+abbrev pub free_after : Super → List ℕ → List (Option StreamBlocks) → FreeBlocks
+free_after s listed streams = unreserved_where s.block s.blocks (λ b. not (list_any (λ x. x == b) (used_blocks (s.map_addr ∷ listed) streams)))
+
 module _ (old : Image) (edits : List StreamEdit) where
   -- the streams after the edits
   unfoldable pub new_layouts : List (Option Layout)
@@ -92,8 +97,7 @@ module _ (old : Image) (edits : List StreamEdit) where
 
   -- every unreserved block below the number of blocks that the new image does not use
   unfoldable pub new_free : FreeBlocks
-  new_free = unreserved_where old.head.block new_blocks
-      (λ b. not (list_any (λ x. x == b) (used_blocks (new_map_addr ∷ new_listed) new_directory)))
+  new_free = free_after new_head new_listed new_directory
 
   abbrev pub new_image : Image
   new_image = image_of new_head new_directory new_free

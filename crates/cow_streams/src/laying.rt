@@ -10,8 +10,8 @@ ghost use Rattle.cow_streams.specs.Planned.{writes_to};
 
 use crate::edits::{edit_at, len_after};
 use crate::write::BlockWrite;
+use crate::writing::cut_block;
 use msf_blocks::{Edit, block_offset, blocks_of_size};
-use msf_image::put_block;
 use std::alloc::{AllocError, Global};
 use stream_directory::Stream;
 
@@ -178,7 +178,5 @@ fn piece_of(alloc: Global, block_size: u32, e: &Edit, k: u32) -> Result<Vec<u8>,
     ensures { IfOk result (λ piece. piece.items
         ≡ block_of block_size e.now.bytes (k - e.now.at / block_size)) }
 {
-    let mut piece = Vec::with_capacity(alloc, block_size as usize)?;
-    put_block(&mut piece, block_size, e.bytes(), k - e.at() / block_size)?;
-    Ok(piece)
+    cut_block(alloc, block_size, e.bytes(), k - e.at() / block_size)
 }

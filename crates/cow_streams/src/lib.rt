@@ -9,8 +9,13 @@ mod freeing;
 mod giving;
 mod laws;
 mod laying;
+mod planned;
+mod planning;
 mod write;
+mod writing;
 
 pub use crate::fault::{PlanFault, Which};
 pub use crate::laws::{plan_of_a_file, planned_is_plan};
+pub use crate::planned::Plan;
+pub use crate::planning::plan;
 pub use crate::write::BlockWrite;
