@@ -1,5 +1,5 @@
 -- What the new blocks of a stream hold is its content after the edits.
-use Rattle.std.proofs.Common.{◌≡◌, ◌≤◌, ◌<◌, ◌+◌, ◌-◌, ◌*◌, ◌/◌, ◌%◌, ◌++◌, ◌⊎◌, ℕ, zero, suc, List, [], ◌∷◌, length, map, take, drop, get_or, All, Option, Some, None, refl, sym, ap, subst, ◌∙◌, inl, inr, arith}
+use Rattle.std.proofs.Common.{◌≡◌, ◌≤◌, ◌<◌, ◌+◌, ◌-◌, ◌*◌, ◌/◌, ◌%◌, ◌⊎◌, ℕ, zero, suc, List, [], ◌∷◌, length, map, take, drop, get_or, Option, Some, None, refl, sym, ap, subst, ◌∙◌, inl, inr, arith}
 use Rattle.std.specs.List.{AllByRecursion, flat_map, range_with_len}
 use Rattle.std.specs.Option.{option_map}
 use Rattle.std.proofs.lemmas.List.{ext_get_or, get_or-take, length-take-le}
@@ -15,10 +15,10 @@ use Rattle.msf_image.specs.Packed.{block_of}
 use Rattle.msf_image.specs.Reads.{block_bytes, bytes_of_blocks}
 use Rattle.msf_image.specs.Relation.{stream_in}
 use Rattle.msf_image.proofs.Laying.{length-block_of, whole_blocks}
-use Rattle.cow_streams.specs.Edits.{IsCovered, IsEdit, byte_by, edit_at, edited_from, edited_stream, has_byte, len_after}
-use Rattle.cow_streams.specs.Layout.{Part, kept, fresh, all_parts, kept_in, laid, laid_one, layout_of, layouts_from, numbers, part_at, part_by, parts_in, parts_of, pieces}
+use Rattle.cow_streams.specs.Edits.{IsCovered, byte_by, edit_at, edited_from, edited_stream, has_byte, len_after}
+use Rattle.cow_streams.specs.Layout.{kept, all_parts, kept_in, laid, laid_one, layout_of, layouts_from, numbers, part_at, part_by, parts_in, parts_of, pieces}
 use Rattle.cow_streams.specs.Planned.{Stands, writes_to}
-use Rattle.cow_streams.proofs.Editing.{IsAligned, are_aligned, found_begins, found_has, same_edit}
+use Rattle.cow_streams.proofs.Editing.{IsAligned, found_begins, found_has, same_edit}
 use Rattle.cow_streams.proofs.Joined.{byte_of_block, each_place, joined_at, length-joined}
 use Rattle.cow_streams.proofs.Lists.{each_at, each_behind, each_front}
 use Rattle.cow_streams.proofs.Numbering.{kept_in-append, part_bytes, parts_joined, pieces-append, writes-append}

@@ -1,10 +1,10 @@
 -- One stream or one block more.
 use Rattle.std.proofs.Common.{◌≡◌, ◌≤◌, ◌<◌, ◌+◌, ◌-◌, ◌*◌, ◌/◌, ◌++◌, ℕ, zero, suc, Bool, true, false, cond, ◌||◌, find, List, [], ◌∷◌, length, map, take, drop, get_or, Option, Some, None, refl, sym, ap, subst, ◌∙◌, arith}
-use Rattle.std.specs.List.{flat_map, list_any, range_with_len}
+use Rattle.std.specs.List.{list_any, range_with_len}
 use Rattle.std.proofs.lemmas.Grind.{flat_map-append}
 use Rattle.std.proofs.lemmas.List.{append_assoc, append-nil, drop-drop, get_or-drop, get_or_read, length-append, take-append-drop, take_all, take_more}
 use Rattle.std.proofs.lemmas.List.FromFn.{length-map-range_with_len, map-range_with_len_more, take-map-range_with_len}
-use Rattle.std.proofs.lemmas.Nat.{div-add-mod', div-mul-add, div_below}
+use Rattle.std.proofs.lemmas.Nat.{div-mul-add, div_below}
 use Rattle.std.proofs.Math.Nat.{suc-mul}
 use Rattle.msf_blocks.specs.declared.superblock.Super.{Super}
 use Rattle.msf_blocks.specs.Blocks.{IsBlockSize, blocks_of_size, map_block}
@@ -13,7 +13,7 @@ use Rattle.msf_blocks.proofs.Sizes.{sized}
 use Rattle.stream_directory.specs.Directory.{IsSized, StreamBlocks}
 use Rattle.msf_image.specs.Packed.{block_of}
 use Rattle.cow_streams.specs.Edits.{IsCovered, edit_at, len_after}
-use Rattle.cow_streams.specs.Layout.{Layout, Part, kept, fresh, all_parts, first_laid, laid, laid_one, layout_of, layouts, layouts_from, numbers, part_at, part_by, parts_in, parts_of, parts_to, pieces}
+use Rattle.cow_streams.specs.Layout.{Layout, Part, all_parts, first_laid, laid, laid_one, layout_of, layouts, layouts_from, numbers, part_at, part_by, parts_in, parts_of, parts_to, pieces}
 use Rattle.cow_streams.specs.Planned.{Write, blocks_of, writes_to}
 use Rattle.cow_streams.proofs.Contents.{below_count, block_begins, covered_inside}
 use Rattle.cow_streams.proofs.Numbering.{length-writes_to, numbers-append, pieces-append, writes-append}

@@ -1,8 +1,7 @@
 -- The blocks of parts: their numbers, and what they hold.
-use Rattle.std.proofs.Common.{◌≡◌, ◌≤◌, ◌<◌, ◌+◌, ◌++◌, ℕ, zero, suc, List, [], ◌∷◌, length, map, drop, get_or, Option, Some, None, refl, sym, ap, ◌∙◌, arith}
+use Rattle.std.proofs.Common.{◌≡◌, ◌≤◌, ◌<◌, ◌++◌, ℕ, zero, suc, List, [], ◌∷◌, length, map, drop, get_or, Option, Some, None, refl, sym, ap, ◌∙◌, arith}
 use Rattle.std.specs.List.{AllByRecursion, flat_map}
-use Rattle.std.proofs.lemmas.List.{length-append}
-use Rattle.stream_directory.specs.Directory.{StreamBlocks, blocks_in}
+use Rattle.stream_directory.specs.Directory.{blocks_in}
 use Rattle.msf_image.specs.Reads.{block_bytes, bytes_of_blocks}
 use Rattle.cow_streams.specs.Layout.{Layout, Part, kept, fresh, all_parts, kept_in, laid, laid_one, numbers, parts_in, pieces}
 use Rattle.cow_streams.specs.Planned.{Stands, Write, writes_to}

@@ -1,12 +1,12 @@
 -- The parts of the plan put together.
-use Rattle.std.proofs.Common.{◌≡◌, ◌≤◌, ◌<◌, ◌+◌, ◌-◌, ◌*◌, ◌/◌, ◌%◌, ◌^◌, ◌++◌, ◌⊎◌, inl, inr, ℕ, zero, suc, Bool, true, false, cond, eqb, List, [], ◌∷◌, length, take, drop, get_or, All, Option, Result, Ok, Err, refl, sym, ap, subst, ◌∙◌, lit<, arith}
+use Rattle.std.proofs.Common.{◌≡◌, ◌≤◌, ◌<◌, ◌+◌, ◌-◌, ◌*◌, ◌%◌, ◌^◌, ◌++◌, inl, inr, ℕ, zero, suc, cond, eqb, List, [], ◌∷◌, length, take, drop, get_or, All, Option, Result, Ok, Err, refl, sym, ap, subst, ◌∙◌, arith}
 use Rattle.std.specs.Prelude.{IfOk}
 use Rattle.std.specs.Global.{Vec}
 use Rattle.std.specs.List.{AllByRecursion, flat_map}
 use Rattle.std.proofs.lemmas.Bool.{cases_Bool}
 use Rattle.std.proofs.lemmas.Nat.{mul-le}
 use Rattle.msf_blocks.specs.declared.superblock.Super.{Super}
-use Rattle.msf_blocks.specs.Blocks.{IsBlockSize, IsMap, blocks_of_size}
+use Rattle.msf_blocks.specs.Blocks.{IsBlockSize, IsMap}
 use Rattle.msf_blocks.specs.Edit.{StreamEdit}
 use Rattle.msf_blocks.proofs.Sizes.{sized}
 use Rattle.free_page_maps.specs.MapText.{map_text}

@@ -1,6 +1,5 @@
 -- What is planned is a plan.
-use Rattle.std.proofs.Common.{◌≡◌, ◌≤◌, ◌<◌, ◌+◌, ◌-◌, ◌*◌, ◌^◌, ℕ, zero, suc, List, [], ◌∷◌, length, map, drop, get_or, All, Option, Some, None, refl, sym, ap, subst, ◌∙◌, arith}
-use Rattle.std.specs.List.{AllByRecursion}
+use Rattle.std.proofs.Common.{◌≡◌, ◌≤◌, ◌<◌, ◌+◌, ◌^◌, ℕ, zero, suc, List, [], ◌∷◌, length, drop, get_or, Option, Some, None, refl, ap, subst, ◌∙◌, arith}
 use Rattle.std.proofs.lemmas.List.Elements.{All-from_recursion}
 use Rattle.std.proofs.lemmas.List.FromFn.{get_or-map-range_with_len, length-map-range_with_len}
 use Rattle.msf_blocks.specs.Blocks.{blocks_of_size}
@@ -9,8 +8,8 @@ use Rattle.msf_blocks.proofs.Sizes.{sized}
 use Rattle.stream_directory.specs.Directory.{StreamBlocks, stream_at}
 use Rattle.msf_image.specs.declared.image.Image.{Image}
 use Rattle.msf_image.specs.Reads.{IsWhole}
-use Rattle.cow_streams.specs.Edits.{AreEdits, edit_at, len_after}
-use Rattle.cow_streams.specs.Layout.{kept, laid, laid_one, layout_of, layouts, layouts_from, numbers, part_at, part_by, parts_in, parts_of, pieces}
+use Rattle.cow_streams.specs.Edits.{AreEdits, len_after}
+use Rattle.cow_streams.specs.Layout.{kept, laid, laid_one, layout_of, layouts, layouts_from, part_at, part_by, parts_in, parts_of, pieces}
 use Rattle.cow_streams.specs.Plan.{IsPlan, IsSparing, SharesBlocks}
 use Rattle.cow_streams.specs.Planned.{FitsDirectory, Stands, block_writes, given_blocks, new_blocks, new_directory, new_head, new_layouts, planned, with_writes}
 use Rattle.cow_streams.proofs.Lists.{each_weaker}

@@ -1,6 +1,6 @@
 -- The blocks that are given: unreserved, rising, and none from which the old image is read.
-use Rattle.std.proofs.Common.{◌≡◌, ◌≤◌, ◌<◌, ◌+◌, ◌-◌, ◌*◌, ◌/◌, ◌%◌, ◌++◌, ◌⊎◌, ◌||◌, ℕ, zero, suc, Bool, true, false, cond, List, [], ◌∷◌, length, take, get_or, All, refl, sym, ap, subst, ◌∙◌, inl, inr, eqb, ltb, min, arith}
-use Rattle.std.specs.List.{AllByRecursion, list_any}
+use Rattle.std.proofs.Common.{◌≡◌, ◌≤◌, ◌<◌, ◌+◌, ◌-◌, ◌*◌, ◌/◌, ◌%◌, ◌⊎◌, ◌||◌, ℕ, zero, suc, true, cond, List, [], ◌∷◌, length, take, get_or, All, refl, sym, ap, subst, ◌∙◌, inl, inr, eqb, ltb, arith}
+use Rattle.std.specs.List.{AllByRecursion}
 use Rattle.std.proofs.lemmas.Bool.{both_ways, cases_Bool, eq-eqb, eqb-true, le-ltb, lt-ltb, or_cases, cases_lt}
 use Rattle.std.proofs.lemmas.List.{length-append, length-take}
 use Rattle.std.proofs.lemmas.List.Elements.{recursion_from_All}
@@ -13,7 +13,7 @@ use Rattle.free_page_maps.specs.FreeBlocks.{FreeBlocks, is_free}
 use Rattle.msf_image.specs.declared.image.Image.{Image}
 use Rattle.msf_image.specs.Reads.{IsWhole}
 use Rattle.cow_streams.specs.Supply.{blocks_with, next_unreserved, supply, unreserved_from}
-use Rattle.cow_streams.proofs.Lists.{Rises, each_append, each_front, each_of, each_take, each_weaker, rises_append, rises_from_increasing, rises_take}
+use Rattle.cow_streams.proofs.Lists.{Rises, each_append, each_take, each_weaker, rises_append, rises_from_increasing, rises_take}
 
 -- ---- blocks that are not reserved
 

@@ -1,18 +1,18 @@
 -- A file that takes the plan reads as the edited streams, and one that does not reads as before.
-use Rattle.std.proofs.Common.{◌≡◌, ◌≤◌, ◌<◌, ◌+◌, ◌-◌, ◌*◌, ◌^◌, ◌++◌, ℕ, zero, suc, not, false, List, [], ◌∷◌, length, map, take, drop, get_or, All, Option, Some, None, refl, sym, ap, subst, ◌∙◌, eqb, arith}
+use Rattle.std.proofs.Common.{◌≡◌, ◌≤◌, ◌<◌, ◌*◌, ◌^◌, ◌++◌, ℕ, not, false, List, [], ◌∷◌, length, map, take, drop, get_or, All, Option, refl, sym, ap, subst, ◌∙◌, eqb, arith}
 use Rattle.std.specs.List.{AllByRecursion, flat_map, list_any, range_with_len}
 use Rattle.std.proofs.lemmas.List.{append-nil, drop_at, length-drop, length-take-le}
-use Rattle.std.proofs.lemmas.List.Elements.{All-from_recursion, recursion_from_All}
+use Rattle.std.proofs.lemmas.List.Elements.{recursion_from_All}
 use Rattle.std.proofs.lemmas.List.Folds.{flat_map-map}
 use Rattle.std.proofs.lemmas.List.FromFn.{get_or-map-range_with_len, length-map-range_with_len}
 use Rattle.msf_blocks.specs.declared.superblock.Super.{Super}
 use Rattle.msf_blocks.specs.Blocks.{IsBlockSize, blocks_of_size, map_block, map_blocks}
 use Rattle.msf_blocks.specs.Edit.{StreamEdit}
 use Rattle.msf_blocks.proofs.Sizes.{sized}
-use Rattle.free_page_maps.specs.FreeBlocks.{free_in, is_free, unreserved_where}
+use Rattle.free_page_maps.specs.FreeBlocks.{free_in, is_free}
 use Rattle.free_page_maps.specs.MapText.{map_text}
 use Rattle.free_page_maps.proofs.MapTexts.{length-map_text, map_again}
-use Rattle.stream_directory.specs.Directory.{AreSized, AreUsable, IsSized, StreamBlocks, blocks_in, directory_text, stream_at, word}
+use Rattle.stream_directory.specs.Directory.{AreSized, AreUsable, StreamBlocks, blocks_in, directory_text, stream_at, word}
 use Rattle.stream_directory.specs.Reading.{words_in}
 use Rattle.stream_directory.proofs.Streams.{Spells-directory_text}
 use Rattle.msf_image.specs.declared.image.Image.{Image}
@@ -24,7 +24,7 @@ use Rattle.msf_image.proofs.Laying.{run_is, run_of}
 use Rattle.msf_image.proofs.PackedFile.{listed_short, map_words}
 use Rattle.msf_image.proofs.Sparing.{same_reads, source_behind, source_inside, spare_apart}
 use Rattle.cow_streams.specs.Edits.{AreEdits, IsCovered, edited, edited_from, len_after}
-use Rattle.cow_streams.specs.Layout.{all_parts, kept_in, laid, layouts, layouts_from, pieces}
+use Rattle.cow_streams.specs.Layout.{all_parts, kept_in, laid, layouts, pieces}
 use Rattle.cow_streams.specs.Plan.{IsSparing, KeepsOld, TakesNew}
 use Rattle.cow_streams.specs.Planned.{FitsDirectory, Stands, Write, block_writes, given_blocks, kept_blocks, new_blocks, new_dir_blocks, new_dir_bytes, new_directory, new_free, new_head, new_image, new_layouts, new_listed, new_map_addr, new_pieces, planned, writes_to, written_count}
 use Rattle.cow_streams.proofs.Contents.{streams_after}

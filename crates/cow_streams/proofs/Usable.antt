@@ -1,5 +1,5 @@
 -- Blocks that may be used together: the new ones, and old ones of which some are left out.
-use Rattle.std.proofs.Common.{◌≡◌, ◌≤◌, ◌<◌, ◌+◌, ◌*◌, ◌++◌, ◌⊎◌, ◌||◌, ℕ, zero, suc, Bool, true, false, List, [], ◌∷◌, length, map, drop, get_or, All, Option, Some, None, refl, sym, ap, subst, ◌∙◌, inl, inr, eqb, arith}
+use Rattle.std.proofs.Common.{◌≡◌, ◌≤◌, ◌<◌, ◌+◌, ◌*◌, ◌++◌, ◌⊎◌, ◌||◌, ℕ, zero, suc, false, List, [], ◌∷◌, length, map, drop, get_or, Option, Some, None, refl, sym, ap, subst, ◌∙◌, inl, inr, eqb, arith}
 use Rattle.std.specs.List.{AllByRecursion, flat_map, list_any, range_with_len}
 use Rattle.std.proofs.lemmas.Bool.{both_ways, eq-eqb, or_parts}
 use Rattle.std.proofs.lemmas.List.{get_or-drop, length-drop}

@@ -1,18 +1,17 @@
 -- The planned image is whole: it may be planned on in turn.
-use Rattle.std.proofs.Common.{◌≡◌, ◌≤◌, ◌<◌, ◌+◌, ◌-◌, ◌*◌, ◌/◌, ◌%◌, ◌^◌, ◌++◌, ◌⊎◌, ◌&&◌, not, ℕ, zero, suc, Bool, true, false, List, [], ◌∷◌, length, map, take, drop, get_or, All, Option, Some, None, refl, sym, ap, subst, ◌∙◌, inl, inr, eqb, arith}
+use Rattle.std.proofs.Common.{◌≡◌, ◌≤◌, ◌<◌, ◌+◌, ◌-◌, ◌^◌, ◌++◌, ◌⊎◌, ◌&&◌, not, ℕ, suc, Bool, true, false, List, [], ◌∷◌, length, map, take, drop, get_or, All, Option, Some, None, refl, sym, ap, subst, ◌∙◌, inl, inr, eqb, arith}
 use Rattle.std.specs.List.{AllByRecursion, flat_map, list_any, range_with_len}
 use Rattle.std.specs.List.Sorted.{IsStrictlyIncreasing}
 use Rattle.std.proofs.lemmas.Bool.{and_right, both_ways, cases_Bool, eq-eqb, false_from_ne_true}
-use Rattle.std.proofs.lemmas.List.{length-append, length-drop, length-take-le}
+use Rattle.std.proofs.lemmas.List.{length-drop, length-take-le}
 use Rattle.std.proofs.lemmas.List.Elements.{All-filter, recursion_from_All}
 use Rattle.std.proofs.lemmas.List.Folds.{list_any_at}
 use Rattle.std.proofs.lemmas.List.FromFn.{get_or-range_with_len, length-map-range_with_len, length-range_with_len}
 use Rattle.std.proofs.lemmas.List.Kept.{IsStrictlyIncreasing-filter}
-use Rattle.msf_blocks.specs.declared.superblock.Super.{Super}
 use Rattle.msf_blocks.specs.Blocks.{IsBlockSize, IsMap, IsReserved, blocks_of_size, is_reserved}
 use Rattle.msf_blocks.specs.Edit.{StreamEdit}
 use Rattle.msf_blocks.specs.Superblock.{IsSuper}
-use Rattle.free_page_maps.specs.FreeBlocks.{FreeBlocks, below_where, is_free, unreserved_where}
+use Rattle.free_page_maps.specs.FreeBlocks.{below_where, is_free, unreserved_where}
 use Rattle.free_page_maps.proofs.Listing.{is_free-below_where, unreserved_where-unreserved}
 use Rattle.stream_directory.specs.Directory.{AreSized, AreUsable, IsDirectory, IsSized, StreamBlocks, absent_size, blocks_in, directory_text, size_field, skipped_count, stream_at}
 use Rattle.stream_directory.proofs.Streams.{length-directory_text}
@@ -22,10 +21,10 @@ use Rattle.msf_image.proofs.Directories.{rising_range}
 use Rattle.msf_image.proofs.Listed.{usable_both, usable_inside}
 use Rattle.msf_image.proofs.PackedStreams.{none_counted}
 use Rattle.cow_streams.specs.Edits.{AreEdits, IsCovered, IsEdit, len_after}
-use Rattle.cow_streams.specs.Layout.{Layout, all_parts, kept_in, laid, laid_one, layout_of, layouts, layouts_from, numbers, part_at, parts_in, parts_of, pieces}
+use Rattle.cow_streams.specs.Layout.{all_parts, kept_in, laid, laid_one, layout_of, layouts, layouts_from, numbers, part_at, parts_in, parts_of, pieces}
 use Rattle.cow_streams.specs.Planned.{FitsDirectory, given_blocks, kept_blocks, new_blocks, new_dir_blocks, new_dir_bytes, new_directory, new_free, new_head, new_image, new_layouts, new_listed, new_map_addr, written_count}
 use Rattle.cow_streams.proofs.Editing.{len_short}
-use Rattle.cow_streams.proofs.Lists.{Across, Distinct, Misses, Rises, any_misses, distinct_from_rises, each_append, each_behind, each_both, each_front, each_take, each_weaker, misses_by, rises_across, rises_behind, rises_front, split_three}
+use Rattle.cow_streams.proofs.Lists.{Across, Distinct, Misses, Rises, any_misses, distinct_from_rises, each_behind, each_both, each_front, each_weaker, misses_by, rises_across, rises_behind, rises_front, split_three}
 use Rattle.cow_streams.proofs.Numbering.{blocks_of_laid, length-laid, length-numbers, numbers_front}
 use Rattle.cow_streams.proofs.Supplying.{IsSupply, given_inside, length-supply, no_fewer_blocks, supply_is}
 use Rattle.cow_streams.proofs.Usable.{Sub, Usable, numbers_usable, streams_sub, sub_append, sub_distinct, sub_each, sub_none, usable_each, usable_from}

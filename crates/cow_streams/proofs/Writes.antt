@@ -1,5 +1,5 @@
 -- The writes: whole blocks from which the old image is not read, no block twice; once all are made, each stands.
-use Rattle.std.proofs.Common.{◌≡◌, ◌≤◌, ◌<◌, ◌+◌, ◌-◌, ◌*◌, ◌/◌, ◌^◌, ◌++◌, ◌⊎◌, ℕ, zero, suc, true, List, [], ◌∷◌, length, map, take, drop, get_or, min, All, Option, Some, None, refl, sym, ap, subst, ◌∙◌, inl, inr, arith}
+use Rattle.std.proofs.Common.{◌≡◌, ◌≤◌, ◌<◌, ◌+◌, ◌-◌, ◌*◌, ◌/◌, ◌^◌, ◌++◌, ◌⊎◌, ℕ, zero, suc, true, List, [], ◌∷◌, length, map, take, drop, get_or, All, Option, Some, None, refl, sym, ap, subst, ◌∙◌, inl, inr, arith}
 use Rattle.std.specs.List.{AllByRecursion, flat_map, range_with_len}
 use Rattle.std.specs.List.Sorted.{IsStrictlyIncreasing}
 use Rattle.std.proofs.lemmas.List.{length-append, length-drop, length-take, map-append}
@@ -11,7 +11,7 @@ use Rattle.srv_edge.specs.Disk.{splice}
 use Rattle.srv_edge.specs.Torn.{torn-splice}
 use Rattle.srv_edge.proofs.Ranges.{spliced_holds, spliced_keeps}
 use Rattle.msf_blocks.specs.declared.superblock.Super.{Super}
-use Rattle.msf_blocks.specs.Blocks.{IsBlockSize, IsReserved, block_offset, blocks_of_size, map_block, map_blocks}
+use Rattle.msf_blocks.specs.Blocks.{IsReserved, block_offset, blocks_of_size, map_block, map_blocks}
 use Rattle.msf_blocks.specs.Edit.{StreamEdit}
 use Rattle.msf_blocks.proofs.Sizes.{sized}
 use Rattle.free_page_maps.specs.FreeBlocks.{is_free}
@@ -20,17 +20,17 @@ use Rattle.stream_directory.specs.Directory.{StreamBlocks, directory_text, word}
 use Rattle.msf_image.specs.declared.image.Image.{Image}
 use Rattle.msf_image.specs.Packed.{block_of}
 use Rattle.msf_image.specs.Reads.{IsWhole, active_map_blocks, block_bytes}
-use Rattle.msf_image.specs.Relation.{IsApart, IsSpare}
+use Rattle.msf_image.specs.Relation.{IsSpare}
 use Rattle.msf_image.proofs.Directories.{map_inside}
 use Rattle.msf_image.proofs.Laying.{length-block_of}
 use Rattle.msf_image.proofs.Sparing.{apart_blocks, map_number, map_reserved}
 use Rattle.cow_streams.specs.Edits.{AreEdits, edit_at, len_after}
 use Rattle.cow_streams.specs.Layout.{Part, kept, fresh, all_parts, layout_of, layouts, layouts_from, part_at, part_by, parts_in, pieces}
 use Rattle.cow_streams.specs.Plan.{IsSparing, IsUnwritten}
-use Rattle.cow_streams.specs.Planned.{FitsDirectory, Stands, Write, block_writes, given_blocks, kept_blocks, map_writes, new_blocks, new_dir_blocks, new_dir_bytes, new_directory, new_free, new_head, new_layouts, new_listed, new_pieces, planned, with_writes, writes_to, written_count}
+use Rattle.cow_streams.specs.Planned.{FitsDirectory, Stands, Write, block_writes, given_blocks, kept_blocks, map_writes, new_blocks, new_dir_blocks, new_directory, new_free, new_head, new_layouts, new_listed, new_pieces, planned, with_writes, writes_to, written_count}
 use Rattle.cow_streams.proofs.Joined.{each_place}
 use Rattle.cow_streams.proofs.Lists.{Distinct, Misses, Rises, distinct_append, distinct_from_rises, each_append, each_both, each_weaker, increasing_from_rises, misses_by}
-use Rattle.cow_streams.proofs.Numbering.{blocks_written, each_write, pieces-append}
+use Rattle.cow_streams.proofs.Numbering.{blocks_written, each_write}
 use Rattle.cow_streams.proofs.Supplying.{unreserved_behind}
 use Rattle.cow_streams.proofs.Wholeness.{IsOldBlock, all_inside, given_across, given_supply, is_super, kept_old, length_directory, length_given, other_map}
 

@@ -1,4 +1,4 @@
-use Rattle.std.proofs.Common.{◌≡◌, ◌*◌, length, sym, ap, ◌∙◌, refl, arith}
+use Rattle.std.proofs.Common.{◌*◌, sym, ap, ◌∙◌, refl, arith}
 use Rattle.std.specs.List.{list_any}
 use Rattle.cow_streams.specs.Edits.{edit_at, has_byte}
 use Rattle.cow_streams.proofs.LayoutLoops.{counted_none, counted_one, written_more}

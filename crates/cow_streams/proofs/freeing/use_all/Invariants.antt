@@ -1,4 +1,4 @@
-use Rattle.std.proofs.Common.{◌≡◌, drop, take}
+use Rattle.std.proofs.Common.{◌≡◌, take}
 use Rattle.cow_streams.specs.Freeing.{without_all}
 use Rattle.cow_streams.proofs.freeing.use_all.Given as goal
 

@@ -1,6 +1,6 @@
 use Rattle.std.proofs.Common.{◌≤◌, ◌++◌, [], ◌∷◌, length, take, sym, ap, ◌∙◌, arith}
 use Rattle.std.proofs.lemmas.List.{take_all, take_more}
-use Rattle.cow_streams.proofs.Loops.{next_free, none_left, searched_more, searched_none}
+use Rattle.cow_streams.proofs.Loops.{next_free, none_left, searched_more}
 use Rattle.cow_streams.proofs.giving.lowest.Goals as goal
 
 pub returns-in_default : goal.returns-in_default

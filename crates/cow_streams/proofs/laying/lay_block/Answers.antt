@@ -1,4 +1,4 @@
-use Rattle.std.proofs.Common.{◌≤◌, ◌∙◌, sym, subst, arith}
+use Rattle.std.proofs.Common.{◌≤◌, sym, subst}
 use Rattle.cow_streams.specs.Edits.{has_byte}
 use Rattle.cow_streams.proofs.Editing.{found_begins, found_has}
 use Rattle.cow_streams.proofs.Lists.{each_of}

@@ -1,4 +1,4 @@
-use Rattle.std.proofs.Common.{◌≡◌, ◌≤◌, ◌<◌, ◌+◌, ◌++◌, [], ◌∷◌, drop, length, sym, ap, subst, ◌∙◌, arith}
+use Rattle.std.proofs.Common.{◌≤◌, ◌<◌, ◌+◌, ◌++◌, [], ◌∷◌, drop, length, sym, ap, subst, ◌∙◌, arith}
 use Rattle.msf_blocks.specs.Blocks.{blocks_of_size}
 use Rattle.cow_streams.specs.Edits.{len_after}
 use Rattle.cow_streams.specs.Layout.{numbers, part_at, parts_to, pieces}

@@ -1,4 +1,4 @@
-use Rattle.std.proofs.Common.{◌≡◌, ◌++◌, ◌∷◌, not, eqb, All, sym, ap, subst, ◌∙◌}
+use Rattle.std.proofs.Common.{◌++◌, ◌∷◌, not, eqb, All, sym, ap, subst, ◌∙◌}
 use Rattle.std.specs.List.{list_any}
 use Rattle.msf_blocks.specs.Blocks.{IsReserved}
 use Rattle.free_page_maps.specs.FreeBlocks.{FreeBlocks}

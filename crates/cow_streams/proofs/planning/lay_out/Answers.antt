@@ -1,12 +1,11 @@
-use Rattle.std.proofs.Common.{◌≡◌, ◌≤◌, ◌<◌, ◌+◌, ◌-◌, ◌*◌, ◌^◌, ◌++◌, [], ◌∷◌, drop, get_or, length, take, lit<, sym, ap, subst, ◌∙◌, arith}
+use Rattle.std.proofs.Common.{◌≡◌, ◌+◌, ◌-◌, ◌++◌, [], ◌∷◌, drop, get_or, length, take, lit<, sym, ap, subst, ◌∙◌, arith}
 use Rattle.std.specs.List.{flat_map}
 use Rattle.msf_blocks.specs.Blocks.{blocks_of_size}
 use Rattle.msf_blocks.specs.Superblock.{IsSuper}
-use Rattle.free_page_maps.specs.MapText.{map_text}
 use Rattle.stream_directory.specs.Directory.{directory_text, word}
 use Rattle.msf_image.specs.Packed.{block_of}
 use Rattle.cow_streams.specs.Layout.{all_parts, laid, layouts, pieces}
-use Rattle.cow_streams.specs.Planned.{blocks_of, free_after, given_blocks, image_of, map_writes, new_blocks, new_dir_blocks, new_dir_bytes, new_directory, new_head, new_listed, new_map_addr, planned, writes_to, written_count}
+use Rattle.cow_streams.specs.Planned.{blocks_of, given_blocks, image_of, new_blocks, new_dir_blocks, new_dir_bytes, new_directory, new_listed, new_map_addr, planned, writes_to, written_count}
 use Rattle.cow_streams.specs.Supply.{blocks_with}
 use Rattle.cow_streams.proofs.LayoutLoops.{writes_count}
 use Rattle.cow_streams.proofs.Numbering.{length-laid}

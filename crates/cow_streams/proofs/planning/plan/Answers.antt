@@ -1,8 +1,7 @@
-use Rattle.std.proofs.Common.{◌≡◌, ◌≤◌, ◌<◌, ◌+◌, ◌*◌, ◌/◌, ◌^◌, length, lit<, sym, ap, subst, ◌∙◌, arith}
-use Rattle.msf_image.specs.Packed.{directory_len}
+use Rattle.std.proofs.Common.{◌≡◌, ◌≤◌, ◌+◌, ◌*◌, length, sym, ap, subst, ◌∙◌, arith}
 use Rattle.cow_streams.specs.Layout.{all_parts, layouts}
 use Rattle.cow_streams.specs.Plan.{IsPlan}
-use Rattle.cow_streams.specs.Planned.{FitsDirectory, image_of, new_blocks, new_dir_bytes, planned}
+use Rattle.cow_streams.specs.Planned.{FitsDirectory, image_of, new_blocks, new_dir_bytes}
 use Rattle.cow_streams.specs.Supply.{blocks_with}
 use Rattle.cow_streams.proofs.Outcome.{blocks_are, bytes_are}
 use Rattle.cow_streams.proofs.Standing.{plan_is}
