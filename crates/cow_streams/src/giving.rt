@@ -60,7 +60,8 @@ fn push_past(
     requires size { IsBlockSize block_size }
     requires few { first ≤ 2 ^ 20 }
     requires small { count ≤ 2 ^ 28 }
-    ensures { OnOk result (given.new.items ≡ given.old.items ++ unreserved_from block_size first count) }
+    ensures { OnOk result (given.new.items ≡ given.old.items
+        ++ unreserved_from block_size first count) }
 {
     let mut end = first;
     for i in 0..count {

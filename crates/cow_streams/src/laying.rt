@@ -29,11 +29,14 @@ pub fn lay_streams(
     requires few { length streams.now < 2 ^ 32 }
     requires sized { AreSized block_size streams.now }
     requires short { All (λ e. e.len < absent_size) edits.now }
-    requires covered { (i : ℕ) → 1 ≤ i → IsCovered block_size edits.now i (stream_at streams.now i) }
+    requires covered { (i : ℕ) → 1 ≤ i
+        → IsCovered block_size edits.now i (stream_at streams.now i) }
     requires enough { length writes.old.items
-        + length (pieces (all_parts (layouts block_size edits.now streams.now))) ≤ length given.now }
+        + length (pieces (all_parts (layouts block_size edits.now streams.now)))
+        ≤ length given.now }
     ensures streams { IfOk result (λ all. all.items
-        ≡ laid (layouts block_size edits.now streams.now) (drop (length writes.old.items) given.now)) }
+        ≡ laid (layouts block_size edits.now streams.now)
+        (drop (length writes.old.items) given.now)) }
     ensures writes { OnOk result (writes.new.items ≡ writes.old.items
         ++ writes_to (pieces (all_parts (layouts block_size edits.now streams.now)))
         (drop (length writes.old.items) given.now)) }

@@ -1,5 +1,5 @@
-//! The plan of a commit: which blocks are written, and with what, so that the old image stands until
-//! the superblock turns.
+//! The plan of a commit: which blocks are written, and with what, so that the old image stands
+//! until the superblock turns.
 #![tactic(auto)]
 
 mod counting;

@@ -23,9 +23,9 @@ use msf_image::Image;
 use std::alloc::{AllocError, Global};
 use stream_directory::Directory;
 
-/// Plans edits of a file that reads as this superblock, directory and free blocks, and may have at most
-/// so many blocks. No device is used. It takes memory for the bytes that are written, the directory and
-/// the map.
+/// Plans edits of a file that reads as this superblock, directory and free blocks, and may have at
+/// most so many blocks. No device is used. It takes memory for the bytes that are written, the
+/// directory and the map.
 pub fn plan(
     alloc: Global,
     head: &Super,
@@ -87,7 +87,8 @@ fn give(
 ) -> Result<Vec<u32>, AllocError>
     requires whole { IsWhole (image_of head.now directory.now free.now) }
     requires few { head.now.blocks ≤ 2 ^ 20 }
-    requires bytes { dir_bytes ≡ new_dir_bytes (image_of head.now directory.now free.now) edits.now }
+    requires bytes { dir_bytes
+        ≡ new_dir_bytes (image_of head.now directory.now free.now) edits.now }
     requires directory { FitsDirectory (image_of head.now directory.now free.now) edits.now }
     ensures given { IfOk result (λ given. given.items
         ≡ given_blocks (image_of head.now directory.now free.now) edits.now) }
@@ -110,7 +111,8 @@ fn lay_out(
 ) -> Result<Plan, AllocError>
     requires whole { IsWhole (image_of head.now directory.now free.now) }
     requires edits { AreEdits head.now.block directory.now edits.now }
-    requires bytes { dir_bytes ≡ new_dir_bytes (image_of head.now directory.now free.now) edits.now }
+    requires bytes { dir_bytes
+        ≡ new_dir_bytes (image_of head.now directory.now free.now) edits.now }
     requires directory { FitsDirectory (image_of head.now directory.now free.now) edits.now }
     requires given { given.now ≡ given_blocks (image_of head.now directory.now free.now) edits.now }
     requires few { new_blocks (image_of head.now directory.now free.now) edits.now ≤ 2 ^ 20 }
@@ -161,7 +163,8 @@ fn finish(
     writes: Vec<BlockWrite>,
 ) -> Result<Plan, AllocError>
     requires passes { IsSuper head }
-    requires inside { All (λ b. b < head.blocks) (used_blocks (head.map_addr ∷ listed.now) directory) }
+    requires inside { All (λ b. b < head.blocks)
+        (used_blocks (head.map_addr ∷ listed.now) directory) }
     ensures image { IfOk result
         (λ p. p.image ≡ image_of head directory (free_after head listed.now directory)) }
     ensures writes { IfOk result (λ p. p.writes ≡ writes.items
