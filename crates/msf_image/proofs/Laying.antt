@@ -122,7 +122,7 @@ run_is size bytes xs rest a (suc n) len at =
     ap (λ ys. ys ++ flat_map (block_of size bytes) (range_with_len (a + 1) n)) first ∙ ap (λ ys. front ++ ys) (run_is size bytes behind rest (a + 1) n n_behind later) ∙ take-append-drop size xs
 
 -- whole blocks hold the bytes
-whole_blocks : (size n : ℕ) → IsBlockSize size → n ≤ blocks_of_size size n * size
+pub whole_blocks : (size n : ℕ) → IsBlockSize size → n ≤ blocks_of_size size n * size
 whole_blocks size n h =
     let least = (sized size h).least in
     let next : n + (size - 1) < blocks_of_size size n * size + size = lt-div-mul-add (omega (arith, least)) in

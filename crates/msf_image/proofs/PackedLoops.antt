@@ -117,7 +117,7 @@ part_is size at from to bytes begin end =
     ap (λ xs. take (to - from) xs ++ replicate (size - (to - from)) 0) same ∙ part_filled size (to - from) (drop at bytes) either (omega (arith, begin, end)) (omega (arith, len, begin, end))
 
 -- zeros have no bit
-zeros_at : (n i : ℕ) → get_or (replicate {A = ℕ} n 0) i 0 ≡ 0
+pub zeros_at : (n i : ℕ) → get_or (replicate {A = ℕ} n 0) i 0 ≡ 0
 zeros_at zero i = refl
 zeros_at (suc n) zero = refl
 zeros_at (suc n) (suc i) = zeros_at n i

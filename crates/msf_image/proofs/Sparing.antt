@@ -138,7 +138,7 @@ behind_head : (size b : ℕ) → ¬ IsReserved size b → 1 ≤ b
 behind_head size zero unreserved = absurd (unreserved refl)
 behind_head size (suc b) unreserved = omega arith
 
-map_number : (map : ℕ) → IsMap map → (1 ≤ map) × (map ≤ 2)
+pub map_number : (map : ℕ) → IsMap map → (1 ≤ map) × (map ≤ 2)
 map_number map is = elim is [ inl one ↦ (omega (arith, one), omega (arith, one)) | inr two ↦ (omega (arith, two), omega (arith, two)) ]
 
 -- what holds of each block of the active map holds of all of them
@@ -148,7 +148,7 @@ map_each P s holds k d lt =
     let there : k < n = omega (arith, lt, length-map-range_with_len (map_block s.block s.map) 0 n) in
     subst P (sym (get_or-map-range_with_len (map_block s.block s.map) 0 n k k d there (omega arith))) (holds k)
 
-source_behind : (file : List ℕ) (limit : ℕ) (image : Image) (streams : List (Option (List ℕ))) → Reads file limit image streams → All (λ b. 1 ≤ b) (source_blocks file image)
+pub source_behind : (file : List ℕ) (limit : ℕ) (image : Image) (streams : List (Option (List ℕ))) → Reads file limit image streams → All (λ b. 1 ≤ b) (source_blocks file image)
 source_behind file limit image streams r =
     let s = image.head in
     All-append (λ b. 1 ≤ b) (used_in file image) (active_map_blocks s)
@@ -176,7 +176,7 @@ headed_reads file limit image streams r =
 -- ---- spare blocks
 
 -- two blocks that are not one lie apart
-apart_blocks : (size a b : ℕ) → (a ≡ b → ⊥) → IsApart size (block_offset size b) size a
+pub apart_blocks : (size a b : ℕ) → (a ≡ b → ⊥) → IsApart size (block_offset size b) size a
 apart_blocks size a b differ =
     elim (cases_lt a b) [
       | inl below ↦ inl (omega (arith, mul-le (a + 1) size b size (omega (arith, below)) (omega arith), suc-mul a size))
@@ -200,7 +200,7 @@ pub free_unreserved : (size blocks : ℕ) (maps : List ℕ) (m : FreeBlocks) →
 free_unreserved size blocks maps m is = subst (λ m. All (λ b. ¬ IsReserved size b) m.free) (sym is) (unreserved_where-unreserved size blocks (has_bit maps))
 
 -- a block of a map is reserved
-map_reserved : (size map j : ℕ) → IsBlockSize size → 1 ≤ map → map ≤ 2 → IsReserved size (map_block size map j)
+pub map_reserved : (size map j : ℕ) → IsBlockSize size → 1 ≤ map → map ≤ 2 → IsReserved size (map_block size map j)
 map_reserved size map j h least most =
     let b = map_block size map j in
     let at : b ≡ j * size + map = omega arith in

@@ -314,9 +314,10 @@ fn given_before(block: u32, b: u32) -> u32
     b - 3 - 2 * ((b - 1) / block)
 }
 
-// Puts block k of some bytes behind others.
+/// Puts block k of some bytes, cut into blocks of this size, behind others. The last block is filled up
+/// with zeros.
 #[tactic(auto, unfolding(crate::specs::Packed::block_of))]
-fn put_block(file: &mut Vec<u8>, block: u32, bytes: &[u8], k: u32) -> Result<(), AllocError>
+pub fn put_block(file: &mut Vec<u8>, block: u32, bytes: &[u8], k: u32) -> Result<(), AllocError>
     requires size { IsBlockSize block }
     ensures { OnOk result (file.new.items ≡ file.old.items ++ block_of block bytes.now k) }
 {

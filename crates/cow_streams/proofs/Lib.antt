@@ -1,0 +1,14 @@
+pub mod Lists
+pub mod Supplying
+pub mod Joined
+pub mod Numbering
+pub mod Editing
+pub mod Contents
+pub mod Usable
+pub mod Wholeness
+pub mod Writes
+pub mod Turning
+pub mod Standing
+pub mod Loops
+pub mod LayoutLoops
+pub mod Outcome

@@ -1,0 +1,6 @@
+pub mod Edits
+pub mod Supply
+pub mod Layout
+pub mod Planned
+pub mod Plan
+pub mod Freeing
