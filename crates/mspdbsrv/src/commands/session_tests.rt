@@ -174,7 +174,11 @@ fn records_by_their_bytes(rt: HostRuntime) -> Result<(), Fail> {
             let want = in_version_2(rt.alloc(), replies)?;
             let (text, got) = talk(rt.alloc(), keys, input.as_str(), 255, &[], &[])?;
             let text = text.as_str().get(14..);
-            assert_eq!(rt; (text, got), (want.as_str().get(14..), status), "at {input}");
+            assert_eq!(rt;
+                (text, got),
+                (want.as_str().get(14..), status),
+                "at {input}"
+            );
         }
     }
     Ok(())
@@ -235,7 +239,11 @@ fn leaves_by_their_bytes(rt: HostRuntime) -> Result<(), Fail> {
             let want = in_version_2(rt.alloc(), replies)?;
             let (text, got) = talk(rt.alloc(), keys, input.as_str(), 255, &[], &[])?;
             let text = text.as_str().get(14..);
-            assert_eq!(rt; (text, got), (want.as_str().get(14..), status), "at {input}");
+            assert_eq!(rt;
+                (text, got),
+                (want.as_str().get(14..), status),
+                "at {input}"
+            );
         }
     }
     Ok(())
@@ -299,7 +307,11 @@ fn items_and_names_by_their_bytes(rt: HostRuntime) -> Result<(), Fail> {
             let want = in_version_2(rt.alloc(), replies)?;
             let (text, got) = talk(rt.alloc(), keys, input.as_str(), 255, &[], &[])?;
             let text = text.as_str().get(14..);
-            assert_eq!(rt; (text, got), (want.as_str().get(14..), status), "at {input}");
+            assert_eq!(rt;
+                (text, got),
+                (want.as_str().get(14..), status),
+                "at {input}"
+            );
         }
     }
     Ok(())

@@ -97,7 +97,11 @@ fn versions_tags_and_lists(rt: HostRuntime) -> Result<(), Fail> {
             Status::Ok,
         ),
         // the end of the input within a tag, and a Bye
-        ("03000000010200 0500000009", "03000000810200", Status::CutShort),
+        (
+            "03000000010200 0500000009",
+            "03000000810200",
+            Status::CutShort,
+        ),
         (
             "03000000010200 050000000a01000000 050000000902000000",
             "03000000810200 050000008a01000000",
