@@ -1,5 +1,5 @@
 -- Offsets put into buckets: one is always free, and each offset finds one.
-use Rattle.std.proofs.Common.{◌≡◌, ◌≢◌, ◌≤◌, ◌<◌, ◌+◌, ◌-◌, ◌%◌, ℕ, zero, suc, cond, List, [], ◌∷◌, ◌++◌, length, get_or, slice_get, set, take, drop, replicate, Option, None, Some, IsSome, refl, sym, ap, ⊎_elim, ◌⊎◌, inl, inr, ◌∙◌, arith}
+use Rattle.std.proofs.Common.{◌≡◌, ◌≢◌, ◌≤◌, ◌<◌, ◌+◌, ◌-◌, ◌%◌, ℕ, zero, suc, cond, List, [], ◌∷◌, ◌++◌, length, get_or, slice_get, set, take, drop, replicate, Option, None, Some, refl, sym, ap, ⊎_elim, ◌⊎◌, inl, inr, ◌∙◌, arith}
 use Rattle.std.specs.Option.{option_map, option_or, unwrap_or}
 use Rattle.std.proofs.lemmas.Bool.Decides.{eqb_tells}
 use Rattle.std.proofs.lemmas.List.{get_or-drop, get_or-take, at_drop_all, at_drop_more, drop_more, length-drop, length-replicate, length-set, length-take-le, take-append-drop}
@@ -205,43 +205,6 @@ found_before start buckets f none le =
           some_all start (drop start buckets) none (k - start) (omega (arith, low, lt, length-drop start buckets))
           (get_or-drop start buckets (k - start) 0 ∙ ap (λ n. get_or buckets n 0) on ∙ e);
       run = λ k zero_le lt e. some_before 0 (take start buckets) f.place is k (omega (arith, lt)) (get_or-take start buckets k 0 (omega (arith, lt, low)) ∙ e);
-    }
-
--- by the two parts of the search: what stands from the bucket on, and what stands before it
-pub record IsBehind (start : ℕ) (buckets : List ℕ) (steps : ℕ) : Type 0 where
-  pub inside : start + steps < length buckets
-  pub is : free_from start buckets ≡ Some (start + steps)
-
-pub behind : (start : ℕ) (buckets : List ℕ) (steps : ℕ) → start ≤ length buckets → Some steps ≡ first_free 0 (drop start buckets) → IsBehind start buckets steps
-behind start buckets steps le is =
-    let f = found_first 0 (drop start buckets) steps (sym is) in
-    let none : start ≡ start + 0 = omega arith in
-    let from : first_free start (drop start buckets) ≡ Some (start + steps) =
-    ap (λ (n : ℕ). first_free n (drop start buckets)) none ∙ first_free-add start 0 (drop start buckets) ∙ ap (option_map (λ k. start + k)) (sym is) in
-    record { inside = omega (arith, f.high, length-drop start buckets); is = ap (λ o. option_or o (first_free 0 (take start buckets))) from }
-
-pub record IsBefore (start : ℕ) (buckets : List ℕ) : Type 0 where
-  pub some : (o : Option ℕ) → o ≡ first_free 0 (take start buckets) → IsSome o
-  pub inside : (place : ℕ) → Some place ≡ first_free 0 (take start buckets) → place < length buckets
-  pub is : (place : ℕ) → Some place ≡ first_free 0 (take start buckets) → free_from start buckets ≡ Some place
-
-some_if : (o : Option ℕ) → (o ≡ None → ⊥) → IsSome o
-some_if None not = absurd (not refl)
-some_if (Some x) not = refl
-
-pub before : (start : ℕ) (buckets : List ℕ) → start ≤ length buckets → taken buckets < length buckets → None ≡ first_free 0 (drop start buckets) → IsBefore start buckets
-before start buckets le room none =
-    let size = length-take-le start buckets le in
-    let rest = all_taken 0 (drop start buckets) (sym none) in
-    let both = taken-append (take start buckets) (drop start buckets) in
-    let same = ap taken (take-append-drop start buckets) in
-    let zero_more : start ≡ start + 0 = omega arith in
-    let from : first_free start (drop start buckets) ≡ None =
-    ap (λ (n : ℕ). first_free n (drop start buckets)) zero_more ∙ first_free-add start 0 (drop start buckets) ∙ ap (option_map (λ k. start + k)) (sym none) in
-    record {
-      some = λ o is. some_if o (λ e. let all = all_taken 0 (take start buckets) (sym is ∙ e) in omega (arith, all, rest, both, same, size, length-drop start buckets, room, le));
-      inside = λ place is. let f = found_first 0 (take start buckets) place (sym is) in omega (arith, f.high, size, le);
-      is = λ place is. let found : first_free 0 (take start buckets) ≡ Some place = sym is in λ j. option_or (from j) (found j);
     }
 
 -- buckets with an offset more

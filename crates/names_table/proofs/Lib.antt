@@ -4,3 +4,4 @@ mod Reading
 mod FreeBuckets
 mod Texts
 mod Lookups
+mod Leading

@@ -1,5 +1,5 @@
 -- The buckets of a written stream of names, by which a name is found from its hash. docs/FORMAT.md, "The stream of names".
-use Rattle.std.specs.Prelude.{ℕ, ◌+◌, ◌/◌, ◌%◌, ◌==◌, if◌then◌else◌, List, [], ◌∷◌, ◌++◌, length, take, drop, replicate, slice_set, Option, None, Some, unwrap_or}
+use Rattle.std.specs.Prelude.{◌≡◌, ◌≢◌, ◌≤◌, ◌<◌, ℕ, ◌+◌, ◌/◌, ◌%◌, ◌==◌, if◌then◌else◌, List, [], ◌∷◌, ◌++◌, length, take, drop, replicate, slice_index, slice_set, Option, None, Some, unwrap_or}
 use Rattle.std.specs.List.{Contains}
 use Rattle.std.specs.Option.{option_map, option_or}
 use Rattle.type_hash.specs.Hash.{string_v1_of, string_v2_of}
@@ -25,6 +25,28 @@ first_free number (b ∷ buckets) = if b == 0 then Some number else first_free (
 -- the first bucket that is 0 from this one on, going round: behind the last comes the first of all
 abbrev pub free_from : ℕ → List ℕ → Option ℕ
 free_from start buckets = option_or (first_free start (drop start buckets)) (first_free 0 (take start buckets))
+
+-- no bucket from one on is free before another
+abbrev pub AreTaken : List ℕ → ℕ → ℕ → Type 0
+AreTaken buckets start end = (k : ℕ) → start ≤ k → k < end → slice_index buckets k ≢ 0
+
+-- the first bucket that is free from one on, without going round, or how many buckets there are
+pub record IsFirstFree (buckets : List ℕ) (start place : ℕ) : Type 0 where
+  pub behind : start ≤ place
+  pub inside : place ≤ length buckets
+  pub taken : AreTaken buckets start place
+  pub free : place < length buckets → slice_index buckets place ≡ 0
+
+-- a bucket leads to a later one, or to the end, with none that is free between
+pub record LeadsOn (buckets : List ℕ) (from to : ℕ) : Type 0 where
+  pub later : from < to
+  pub inside : to ≤ length buckets
+  pub taken : AreTaken buckets from to
+
+-- so does each taken bucket
+pub record Leads (buckets next : List ℕ) : Type 0 where
+  pub count : length next ≡ length buckets
+  pub each : (i : ℕ) → i < length buckets → slice_index buckets i ≢ 0 → LeadsOn buckets i (slice_index next i)
 
 -- the buckets with an offset more, in the first that is free from that of the hash on
 abbrev pub with_offset : ℕ → ℕ → List ℕ → List ℕ

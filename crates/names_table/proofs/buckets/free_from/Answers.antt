@@ -1,26 +1,16 @@
-use Rattle.std.proofs.Common.{ap, sym, ◌∙◌, arith}
-use Rattle.names_table.specs.Buckets.{first_free}
-use Rattle.names_table.proofs.FreeBuckets.{IsBehind, before, behind}
+use Rattle.std.proofs.Common.{arith}
+use Rattle.names_table.proofs.Leading.{found_before, found_behind}
 use Rattle.names_table.proofs.buckets.free_from.Goals as goal
 
--- the part from the bucket on has one
-later : (c : goal.In-Some) → IsBehind c.args.start c.args.buckets.now c.in-Some.steps
-later c = behind c.args.start c.args.buckets.now c.in-Some.steps (omega arith) (c.in-Some.ensures ∙ ap (first_free 0) c.split_at.ensures.back)
+pub returns-then-place-buckets-clause-first : goal.returns-then-place-buckets-clause-first
+returns-then-place-buckets-clause-first c = found_behind c.args.buckets.now c.args.start c.free_behind-place.result c.free_behind-place.ensures.first c.if-place-buckets.true
 
-pub overflow_add-result : goal.overflow_add-result
-overflow_add-result c = omega (arith, (later c).inside, c.type_inv.buckets)
+pub returns-clause-inside : goal.returns-clause-inside
+returns-clause-inside c =
+    (found_before c.args.buckets.now c.args.start c.free_behind-place.result c.free_behind.result (omega (arith, c.requires.inside))
+    c.free_behind-place.ensures.first c.if-place-buckets.false c.free_behind.ensures.first c.requires.free).inside
 
-pub unwrap-requires : goal.unwrap-requires
-unwrap-requires c = (before c.args.start c.args.buckets.now (omega arith) c.requires.free (c.in-None.ensures ∙ ap (first_free 0) c.split_at.ensures.back)).some c.first_free-in-None.result (c.first_free-in-None.ensures ∙ ap (first_free 0) c.split_at.ensures.front)
-
-pub returns-in-Some-clause-inside : goal.returns-in-Some-clause-inside
-returns-in-Some-clause-inside c = (later c).inside
-
-pub returns-in-Some-clause-first : goal.returns-in-Some-clause-first
-returns-in-Some-clause-first c = (later c).is
-
-pub returns-in-None-clause-inside : goal.returns-in-None-clause-inside
-returns-in-None-clause-inside c = (before c.args.start c.args.buckets.now (omega arith) c.requires.free (c.in-None.ensures ∙ ap (first_free 0) c.split_at.ensures.back)).inside c.unwrap.result (sym c.unwrap.ensures ∙ c.first_free-in-None.ensures ∙ ap (first_free 0) c.split_at.ensures.front)
-
-pub returns-in-None-clause-first : goal.returns-in-None-clause-first
-returns-in-None-clause-first c = (before c.args.start c.args.buckets.now (omega arith) c.requires.free (c.in-None.ensures ∙ ap (first_free 0) c.split_at.ensures.back)).is c.unwrap.result (sym c.unwrap.ensures ∙ c.first_free-in-None.ensures ∙ ap (first_free 0) c.split_at.ensures.front)
+pub returns-clause-first : goal.returns-clause-first
+returns-clause-first c =
+    (found_before c.args.buckets.now c.args.start c.free_behind-place.result c.free_behind.result (omega (arith, c.requires.inside))
+    c.free_behind-place.ensures.first c.if-place-buckets.false c.free_behind.ensures.first c.requires.free).is
