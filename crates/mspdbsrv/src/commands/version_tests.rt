@@ -27,7 +27,8 @@ pub(crate) fn in_version_2(alloc: Global, frames: &str) -> Result<String, Fail> 
         let Some((frame, behind)) = first_frame(rest) else {
             break;
         };
-        out.extend_from_slice(&word((frame.len() as u32).wrapping_add(4)))?;
+        let length = u32::try_from(frame.len()).unwrap_or(0);
+        out.extend_from_slice(&word(length.wrapping_add(4)))?;
         out.extend_from_slice(frame.get(..1).unwrap_or(&[]))?;
         out.extend_from_slice(&word(tag))?;
         out.extend_from_slice(frame.get(1..).unwrap_or(&[]))?;
