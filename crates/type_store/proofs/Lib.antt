@@ -1,2 +1,4 @@
 pub mod Named
 pub mod Written
+pub mod Parts
+pub mod NewFile

@@ -1,3 +1,4 @@
 pub mod Faults
 pub mod Holds
 pub mod Written
+pub mod NewFile

@@ -1,5 +1,5 @@
 -- What the contents of a file are that is written for tables, and what they hold.
-use Rattle.std.specs.Prelude.{◌≡◌, ◌≢◌, ◌≤◌, ℕ, List, codes, Some, Ok}
+use Rattle.std.specs.Prelude.{◌≡◌, ◌≢◌, ◌≤◌, ◌<◌, ◌^◌, ℕ, List, All, codes, Some, Ok}
 use Rattle.srv_edge.specs.declared.failed.Limits.{Limits}
 use Rattle.info_stream.specs.Named.{stream_named}
 use Rattle.info_stream.specs.Text.{with_age}
@@ -11,6 +11,10 @@ use Rattle.names_table.specs.Names.{IsNamesTable}
 use Rattle.names_table.specs.Text.{names_text}
 use Rattle.table_model.specs.Tables.{Tables, table_within}
 use Rattle.type_store.specs.Holds.{Contents, Held, content_at}
+
+-- all contents are bytes
+abbrev pub HaveBytes : Contents → Type 0
+HaveBytes contents = (i : ℕ) (stream : List ℕ) → content_at contents i ≡ Some stream → All (λ byte. byte < 2 ^ 8) stream
 
 -- what a file keeps, whatever is written to it: numbers of both streams of records, and the stream of names
 pub record KeptNumbers : Type 0 where

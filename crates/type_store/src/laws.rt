@@ -1,8 +1,10 @@
-ghost use Rattle.std.specs.Prelude.{◌≡◌, ◌<◌, ◌^◌, ℕ, List, Ok};
+ghost use Rattle.std.specs.Prelude.{◌≡◌, ◌<◌, ◌^◌, ℕ, List, Some, Ok, length};
+ghost use Rattle.info_stream.specs.Text.{new_info};
 ghost use Rattle.srv_edge.specs.declared.failed.Limits.{Limits};
-ghost use Rattle.table_model.specs.Tables.{Tables};
-ghost use Rattle.type_store.specs.Holds.{Contents, holding, tables_of};
-ghost use Rattle.type_store.specs.Written.{AreWithin, CanKeep, IsWritten, KeptNumbers, numbers_of, written_held};
+ghost use Rattle.table_model.specs.Tables.{Tables, empty_tables};
+ghost use Rattle.type_store.specs.Holds.{Contents, Held, content_at, holding, tables_of};
+ghost use Rattle.type_store.specs.NewFile.{new_contents, new_numbers};
+ghost use Rattle.type_store.specs.Written.{AreWithin, CanKeep, HaveBytes, IsWritten, KeptNumbers, numbers_of, written_held};
 
 use names_table::written_names_are_read;
 
@@ -21,4 +23,28 @@ pub fn written_tables_are_held()
         → numbers_of (written_held kept age tables) ≡ kept }
 {
     written_names_are_read();
+}
+
+/// A law: contents that hold something name in their PDB stream, and have in their headers, numbers
+/// with which other tables can be written.
+pub fn held_numbers_can_be_kept()
+    ensures { (limits : Limits) (contents : Contents) (held : Held) → HaveBytes contents
+        → holding limits contents ≡ Ok held → (info : List ℕ)
+        × (content_at contents 1 ≡ Some info) × CanKeep (numbers_of held) info }
+{}
+
+/// A law: the streams of a new file are written for the age 1 and empty tables, with numbers that
+/// can be kept, and hold them.
+pub fn new_file_is_written()
+    ensures can { (guid : List ℕ) (signature : ℕ) → length guid ≡ 16
+        → CanKeep new_numbers (new_info guid signature) }
+    ensures within { (limits : Limits) → AreWithin limits (empty_tables limits) }
+    ensures written { (limits : Limits) (guid : List ℕ) (signature : ℕ)
+        → IsWritten new_numbers (new_info guid signature) 1 (empty_tables limits)
+        (new_contents guid signature) }
+    ensures held { (limits : Limits) (guid : List ℕ) (signature : ℕ) → length guid ≡ 16
+        → holding limits (new_contents guid signature)
+        ≡ Ok (written_held new_numbers 1 (empty_tables limits)) }
+{
+    written_tables_are_held();
 }

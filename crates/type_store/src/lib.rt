@@ -3,4 +3,6 @@
 
 mod laws;
 
-pub use crate::laws::{written_tables_are_held};
+pub use crate::laws::{
+    held_numbers_can_be_kept, new_file_is_written, written_tables_are_held,
+};
