@@ -1,5 +1,5 @@
 -- A PDB stream that names a stream has the fields before its map.
-use Rattle.std.proofs.Common.{◌≡◌, ◌≤◌, ◌-◌, ℕ, Bool, true, false, cond, List, Result, Ok, Err, length, take, drop, refl, sym, ap, ◌∙◌, arith, leb, leb-true}
+use Rattle.std.proofs.Common.{◌≡◌, ◌≤◌, ◌-◌, ℕ, Bool, true, false, cond, List, Ok, Err, length, take, drop, refl, sym, ap, ◌∙◌, arith, leb, leb-true}
 use Rattle.std.proofs.lemmas.List.{length-drop}
 use Rattle.byteorder.specs.Endian.{little_number}
 use Rattle.msf_blocks.specs.Judging.{◌>>=◌}

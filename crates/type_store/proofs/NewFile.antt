@@ -1,22 +1,20 @@
 -- A new file is written for empty tables.
-use Rattle.std.proofs.Common.{◌≡◌, ◌≤◌, ℕ, zero, suc, List, [], ◌∷◌, Some, length, All, refl, ap, sym, ◌∙◌, arith, lit≤, inl}
-use Rattle.std.specs.List.{AllByRecursion}
+use Rattle.std.proofs.Common.{◌≡◌, ◌≤◌, ℕ, List, [], Some, length, refl, ap, sym, arith, inl}
 use Rattle.srv_edge.specs.declared.failed.Limits.{Limits}
 use Rattle.info_stream.specs.Text.{new_info, with_age}
 use Rattle.info_stream.proofs.Ages.{named-new_info}
-use Rattle.tpi_stream.specs.Hashes.{hash_text, hash_values, index_offsets}
+use Rattle.tpi_stream.specs.Hashes.{hash_values, index_offsets}
 use Rattle.tpi_stream.specs.Written.{CanBeKept}
 use Rattle.record_table.specs.Table.{IsKept}
-use Rattle.names_table.specs.Names.{IsNamesTable}
 use Rattle.table_model.specs.Tables.{empty_tables, table_within}
 use Rattle.type_store.specs.NewFile.{new_contents, new_kept, new_numbers}
 use Rattle.type_store.specs.Written.{AreWithin, CanKeep, IsWritten}
 
-same_age : (guid : List ℕ) (signature : ℕ) → with_age (new_info guid signature) 1 ≡ new_info guid signature
+pub same_age : (guid : List ℕ) (signature : ℕ) → with_age (new_info guid signature) 1 ≡ new_info guid signature
 unfolding new_info
 same_age guid signature = refl
 
-new_can : (hash_stream : ℕ) → hash_stream ≤ 7 → CanBeKept (new_kept hash_stream)
+pub new_can : (hash_stream : ℕ) → hash_stream ≤ 7 → CanBeKept (new_kept hash_stream)
 new_can hash_stream le = record { hash_stream = omega (arith, le); aux_stream = omega arith; least_buckets = omega arith; most_buckets = omega arith }
 
 pub new_can_keep : (guid : List ℕ) (signature : ℕ) → length guid ≡ 16 → CanKeep new_numbers (new_info guid signature)
@@ -43,7 +41,7 @@ new_written guid signature limits = record {
   names = refl;
 }
 
-empty_kept : (limits : Limits) → IsKept (table_within limits [])
+pub empty_kept : (limits : Limits) → IsKept (table_within limits [])
 empty_kept limits = record { all = grind arith; within = record { few = omega arith; short = omega arith }; most_records = limits.few_records; most_bytes = limits.few_bytes }
 
 pub empty_within : (limits : Limits) → AreWithin limits (empty_tables limits)

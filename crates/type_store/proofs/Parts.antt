@@ -1,5 +1,5 @@
 -- What is known of contents that hold something.
-use Rattle.std.proofs.Common.{◌≡◌, ◌≢◌, ◌≤◌, ◌<◌, ◌^◌, ◌==◌, ◌&&◌, ℕ, Bool, true, false, not, cond, All, List, [], ◌∷◌, Option, None, Some, unwrap_or, Result, Ok, Err, length, codes, is_none, refl, sym, ap, ◌∙◌, subst, arith, leb, leb-true, eqb}
+use Rattle.std.proofs.Common.{◌≡◌, ◌≢◌, ◌≤◌, ◌==◌, ◌&&◌, ◌||◌, ℕ, Bool, true, false, not, cond, List, [], ◌∷◌, Option, None, Some, unwrap_or, Ok, codes, is_none, refl, ap, ◌∙◌, subst, leb, leb-true, eqb}
 use Rattle.std.specs.List.{list_any}
 use Rattle.std.proofs.lemmas.Bool.{and_parts, eqb-false, not-true}
 use Rattle.msf_blocks.specs.Judging.{◌>>=◌, told_by}
@@ -12,11 +12,10 @@ use Rattle.msf_image.specs.declared.fault.DamageKind.TheVariants as kind
 use Rattle.info_stream.specs.Named.{age_in, stream_named}
 use Rattle.tpi_stream.specs.declared.reading.Records.{Records}
 use Rattle.tpi_stream.specs.Reading as records
-use Rattle.tpi_stream.specs.Written.{kept_of}
 use Rattle.tpi_stream.proofs.WrittenStreams.{read_can}
 use Rattle.names_table.specs.Names.{Names}
 use Rattle.names_table.specs.Reading as names
-use Rattle.type_store.specs.Faults.{absent_damage, damage_at, hash_damage, info_damage, names_damage, record_damage}
+use Rattle.type_store.specs.Faults.{absent_damage, damage_at, info_damage, names_damage, record_damage}
 use Rattle.type_store.specs.Holds.{Contents, Held, content_apart, content_at, holding, info_in, is_apart, names_held, records_held, stream_of, there, with_hashes}
 use Rattle.type_store.specs.Written.{CanKeep, HaveBytes, numbers_of}
 
@@ -34,11 +33,11 @@ parts : (limits : Limits) (contents : Contents) (held : Held) → holding limits
 unfolding holding
 parts limits contents held e =
     let i = bound_ok (info_in contents) (λ info. records_held limits contents Types [] >>= λ types. records_held limits contents Items (types.header.hash_stream ∷ []) >>= λ items.
-      names_held limits contents (types.header.hash_stream ∷ items.header.hash_stream ∷ []) info.0 >>= λ table. Ok (made info types items table)) held e in
+    names_held limits contents (types.header.hash_stream ∷ items.header.hash_stream ∷ []) info.0 >>= λ table. Ok (made info types items table)) held e in
     let t = bound_ok (records_held limits contents Types []) (λ types. records_held limits contents Items (types.header.hash_stream ∷ []) >>= λ items.
-      names_held limits contents (types.header.hash_stream ∷ items.header.hash_stream ∷ []) i.0.0 >>= λ table. Ok (made i.0 types items table)) held i.2 in
+    names_held limits contents (types.header.hash_stream ∷ items.header.hash_stream ∷ []) i.0.0 >>= λ table. Ok (made i.0 types items table)) held i.2 in
     let s = bound_ok (records_held limits contents Items (t.0.header.hash_stream ∷ [])) (λ items.
-      names_held limits contents (t.0.header.hash_stream ∷ items.header.hash_stream ∷ []) i.0.0 >>= λ table. Ok (made i.0 t.0 items table)) held t.2 in
+    names_held limits contents (t.0.header.hash_stream ∷ items.header.hash_stream ∷ []) i.0.0 >>= λ table. Ok (made i.0 t.0 items table)) held t.2 in
     let n = bound_ok (names_held limits contents (t.0.header.hash_stream ∷ s.0.header.hash_stream ∷ []) i.0.0) (λ table. Ok (made i.0 t.0 s.0 table)) held s.2 in
     let same : made i.0 t.0 s.0 n.0 ≡ held = cc in
     let all : Parts limits contents (made i.0 t.0 s.0 n.0) = record { info = i.1; types = t.1; items = s.1; names = n.1 } in
@@ -75,7 +74,7 @@ found : (limits : Limits) (contents : Contents) (space : Space) (others : List �
 unfolding records_held
 found limits contents space others r e =
     let s = bound_ok (there (absent_damage space) (content_at contents (stream_of space))) (λ s. told_by (record_damage space) (records.reading limits.records limits.bytes s)
-      >>= λ (f : Records). with_hashes (is_apart contents others f.header.hash_stream) space f) r e in
+    >>= λ (f : Records). with_hashes (is_apart contents others f.header.hash_stream) space f) r e in
     let f = bound_ok (told_by (record_damage space) (records.reading limits.records limits.bytes s.0)) (λ (f : Records). with_hashes (is_apart contents others f.header.hash_stream) space f) r s.2 in
     let h = hashes_ok (is_apart contents others f.0.header.hash_stream) space f.0 r f.2 in
     record {
@@ -107,7 +106,7 @@ apart_parts contents others i e =
 not_first : (a i : ℕ) (others : List ℕ) → list_any (λ other. other == i) (a ∷ others) ≡ false → (a ≢ i) × (list_any (λ other. other == i) others ≡ false)
 not_first a i others e = go (eqb a i) refl e
   where
-    go : (b : Bool) → eqb a i ≡ b → cond b true (list_any (λ other. other == i) others) ≡ false → (a ≢ i) × (list_any (λ other. other == i) others ≡ false)
+    go : (b : Bool) → eqb a i ≡ b → (b || list_any (λ other. other == i) others) ≡ false → (a ≢ i) × (list_any (λ other. other == i) others ≡ false)
     go true is e = absurd cc
     go false is e = (eqb-false a i is, e)
 

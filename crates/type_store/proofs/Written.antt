@@ -1,5 +1,5 @@
 -- Contents that are written for tables hold these tables.
-use Rattle.std.proofs.Common.{◌≡◌, ◌≢◌, ◌≤◌, ◌<◌, ◌+◌, ◌^◌, ◌==◌, ◌&&◌, ℕ, Bool, true, false, not, cond, All, List, [], ◌∷◌, Option, None, Some, unwrap_or, Result, Ok, Err, length, codes, is_none, refl, sym, ap, ◌∙◌, subst, arith, le-leb, leb}
+use Rattle.std.proofs.Common.{◌≡◌, ◌≢◌, ◌≤◌, ◌<◌, ◌^◌, ◌==◌, ◌&&◌, ℕ, true, false, not, cond, List, [], ◌∷◌, None, Some, unwrap_or, Ok, length, codes, is_none, refl, sym, ap, ◌∙◌, arith, le-leb, leb}
 use Rattle.std.specs.List.{AllByRecursion, list_any}
 use Rattle.std.proofs.lemmas.Bool.{and_from, ne_eqb}
 use Rattle.std.proofs.lemmas.List.Elements.{recursion_from_All}
@@ -23,8 +23,8 @@ use Rattle.names_table.specs.Names.{IsNamesTable, Names}
 use Rattle.names_table.specs.Reading as names
 use Rattle.names_table.specs.Text.{names_text}
 use Rattle.table_model.specs.Tables.{Tables, table_within}
-use Rattle.type_store.specs.Faults.{absent_damage, damage_at, hash_damage, info_damage, names_damage, record_damage}
-use Rattle.type_store.specs.Holds.{Contents, Held, content_apart, content_at, holding, info_in, is_apart, names_held, records_held, stream_of, tables_of, there, with_hashes}
+use Rattle.type_store.specs.Faults.{absent_damage, damage_at, info_damage, names_damage, record_damage}
+use Rattle.type_store.specs.Holds.{Contents, content_apart, content_at, holding, info_in, is_apart, names_held, records_held, stream_of, tables_of, there, with_hashes}
 use Rattle.type_store.proofs.Named.{named_long}
 use Rattle.type_store.specs.Written.{AreWithin, CanKeep, IsWritten, KeptNumbers, written_held}
 
@@ -45,7 +45,7 @@ apart : (contents : Contents) (others : List ℕ) (i : ℕ) (bytes : List ℕ) �
 unfolding is_apart
 apart contents others i bytes le is none =
     and_from (leb 5 i) (not (is_none (content_at contents i)) && not (list_any (λ other. other == i) others)) (le-leb 5 i le)
-      (and_from (not (is_none (content_at contents i))) (not (list_any (λ other. other == i) others)) (ap (λ c. not (is_none c)) is) (ap not none))
+    (and_from (not (is_none (content_at contents i))) (not (list_any (λ other. other == i) others)) (ap (λ c. not (is_none c)) is) (ap not none))
 
 none_of_one : (a i : ℕ) → a ≢ i → list_any (λ other. other == i) (a ∷ []) ≡ false
 none_of_one a i ne = rw (ne_eqb a i ne) refl
@@ -60,7 +60,7 @@ are_records : (records : List (List ℕ)) → AllByRecursion IsRecord records �
 are_records [] all = all
 are_records (r ∷ records) all = (record { least = all.0.shortest; size = all.0.says }, are_records records all.1)
 
-table_written : (limits : Limits) (table : Table) (kept : Kept) → IsKept table → table ≡ table_within limits table.records → CanBeKept kept
+pub table_written : (limits : Limits) (table : Table) (kept : Kept) → IsKept table → table ≡ table_within limits table.records → CanBeKept kept
     → records.reading limits.records limits.bytes (record_stream_text kept table.records) ≡ Ok (record { header = written_header kept table.records; list = table.records })
 table_written limits table kept is within can =
     let most_records : table.max_records ≡ limits.records = ap (λ (t : Table). t.max_records) within in
@@ -114,10 +114,10 @@ tables_written text_read limits kept info age tables contents can within small i
     let items_apart = apart contents (types ∷ []) items (hash_text tables.items.records kept.items.buckets) can.item_hashes is.item_hashes (none_of_one types items can.two_hashes) in
     let names_apart = apart contents (types ∷ items ∷ []) kept.names_stream (names_text tables.names.version tables.names.names) can.names_stream is.names (none_of_two types items kept.names_stream can.names_no_types can.names_no_items) in
     parts_held limits contents age kept.names_stream (written_held kept age tables).types (written_held kept age tables).items tables.names
-      (info_written contents info age kept.names_stream is.info_stream long small can.names)
-      (records_written limits contents Types [] tables.types kept.types within.types within.type_limits can.types is.types types_apart)
-      (records_written limits contents Items (types ∷ []) tables.items kept.items within.items within.item_limits can.items is.items items_apart)
-      (names_written text_read limits contents (types ∷ items ∷ []) kept.names_stream tables.names within.names within.name_limit is.names names_apart)
+    (info_written contents info age kept.names_stream is.info_stream long small can.names)
+    (records_written limits contents Types [] tables.types kept.types within.types within.type_limits can.types is.types types_apart)
+    (records_written limits contents Items (types ∷ []) tables.items kept.items within.items within.item_limits can.items is.items items_apart)
+    (names_written text_read limits contents (types ∷ items ∷ []) kept.names_stream tables.names within.names within.name_limit is.names names_apart)
 
 pub written_tables : (limits : Limits) (kept : KeptNumbers) (age : ℕ) (tables : Tables) → AreWithin limits tables → tables_of limits (written_held kept age tables) ≡ tables
 written_tables limits kept age tables within = λ i. record { types = sym within.type_limits i; items = sym within.item_limits i; names = tables.names }

@@ -4,5 +4,6 @@
 mod laws;
 
 pub use crate::laws::{
-    held_numbers_can_be_kept, new_file_is_written, written_tables_are_held,
+    changed_files_are_damaged, held_numbers_can_be_kept, judgements_want_no_memory,
+    new_file_is_written, written_tables_are_held,
 };
