@@ -20,7 +20,7 @@ abbrev pub info_damage : InfoFault → Damage
 info_damage (info.Short at) = damage_at kind.InfoShort at
 info_damage info.NoName = damage_at kind.NoNames 0
 
--- Of the stream of types. What memory is wanted for is no damage, and no judgement of a stream says so.
+-- Of the stream of types. No judgement says that memory is wanted, so the last line stands for no damage, here as below.
 abbrev pub types_damage : TpiFault → Damage
 types_damage (records.Header at) = damage_at kind.TypesHeader at
 types_damage (records.Version at) = damage_at kind.TypesVersion at
