@@ -9,7 +9,8 @@ use std::alloc::{AllocError, AllocFailed};
 use stream_directory::{DirDamage, DirFault};
 use thiserror::Error;
 
-/// What is wrong with a file. docs/FORMAT.md has the tests in their order.
+/// What is wrong with a file: its container, or from `InfoShort` on what its streams hold.
+/// docs/FORMAT.md has the tests in their order.
 #[derive(Clone, Copy, Debug, PartialEq, Eq)]
 pub enum DamageKind {
     Magic,
@@ -24,6 +25,26 @@ pub enum DamageKind {
     DirectoryShort,
     DirectoryExtra,
     BlockFree,
+    InfoShort,
+    NoNames,
+    TypesHeader,
+    TypesVersion,
+    TypesBegin,
+    TypesBytes,
+    TypesRecord,
+    TypesCount,
+    TypesHash,
+    ItemsHeader,
+    ItemsVersion,
+    ItemsBegin,
+    ItemsBytes,
+    ItemsRecord,
+    ItemsCount,
+    ItemsHash,
+    NamesStream,
+    NamesHeader,
+    NamesSize,
+    NamesText,
 }
 
 impl DamageKind {
@@ -44,12 +65,32 @@ impl DamageKind {
             DamageKind::DirectoryShort => "directory-short",
             DamageKind::DirectoryExtra => "directory-extra",
             DamageKind::BlockFree => "block-free",
+            DamageKind::InfoShort => "info-short",
+            DamageKind::NoNames => "no-names",
+            DamageKind::TypesHeader => "types-header",
+            DamageKind::TypesVersion => "types-version",
+            DamageKind::TypesBegin => "types-begin",
+            DamageKind::TypesBytes => "types-bytes",
+            DamageKind::TypesRecord => "types-record",
+            DamageKind::TypesCount => "types-count",
+            DamageKind::TypesHash => "types-hash",
+            DamageKind::ItemsHeader => "items-header",
+            DamageKind::ItemsVersion => "items-version",
+            DamageKind::ItemsBegin => "items-begin",
+            DamageKind::ItemsBytes => "items-bytes",
+            DamageKind::ItemsRecord => "items-record",
+            DamageKind::ItemsCount => "items-count",
+            DamageKind::ItemsHash => "items-hash",
+            DamageKind::NamesStream => "names-stream",
+            DamageKind::NamesHeader => "names-header",
+            DamageKind::NamesSize => "names-size",
+            DamageKind::NamesText => "names-text",
         }
     }
 }
 
-/// The first test that a file fails, and where: an offset in the superblock or the directory, or a
-/// block's number.
+/// The first test that a file fails, and where: an offset in the superblock, the directory or a
+/// stream, or the number of a block or of a stream.
 #[derive(Clone, Copy, Debug, PartialEq, Eq)]
 pub struct Damage {
     pub kind: DamageKind,

@@ -1,0 +1,4 @@
+pub mod Faults
+pub mod Holds
+pub mod Written
+pub mod NewFile
