@@ -81,3 +81,43 @@ fn commit(
     device.write_super(&plan.head())?;
     Ok(numbers)
 }
+
+// The active map, the number of blocks and that of the free ones, of the file as it is opened.
+fn numbers_of(alloc: Global, device: &mut MemDevice) -> Result<(u32, u32, u32), Fail> {
+    let image = open_image(alloc, device, 1 << 20)?;
+    Ok((image.head.map, image.head.blocks, image.free.len()))
+}
+
+// The blocks of a stream of the file as it is opened.
+fn blocks_of(alloc: Global, device: &mut MemDevice, stream: usize) -> Result<Vec<u32>, Fail> {
+    let image = open_image(alloc, device, 1 << 20)?;
+    match image.directory.streams().get(stream) {
+        Some(Some(kept)) => Ok(kept.blocks().to_vec(alloc)?),
+        _ => Err("there is such a stream".into()),
+    }
+}
+
+// What a stream holds in the file as it is opened.
+fn stream_of(alloc: Global, device: &mut MemDevice, stream: u32) -> Result<Vec<u8>, Fail> {
+    let image = open_image(alloc, device, 1 << 20)?;
+    Ok(image.read_stream(alloc, device, stream)?)
+}
+
+// A new file of eight streams, of which the first commit writes 1, 2, 4, 5 and 7 whole, and the
+// second stream 1 alone.
+#[test]
+fn two_commits(rt: HostRuntime) -> Result<(), Fail> {
+    let alloc = rt.alloc();
+    let mut device = file_of(alloc, 4096, &[0, 75, 56, 0, 56, 0, 0, 29])?;
+    let first = [(1, 0, 75, 75), (2, 0, 68, 68), (4, 0, 56, 56), (5, 0, 8, 8), (7, 0, 33, 33)];
+    let wrote = commit(alloc, &mut device, &first, 16)?;
+    assert_eq!(rt; wrote.as_slice(), [9, 10, 11, 12, 13, 14, 15, 2].as_slice());
+    assert_eq!(rt; numbers_of(alloc, &mut device)?, (2, 16, 6));
+    let wrote = commit(alloc, &mut device, &[(1, 0, 75, 75)], 16)?;
+    assert_eq!(rt; wrote.as_slice(), [3, 4, 5, 1].as_slice());
+    for (stream, block) in [(1, 3), (2, 10), (4, 11), (5, 12), (7, 13)] {
+        let blocks = blocks_of(alloc, &mut device, stream)?;
+        assert_eq!(rt; blocks.as_slice(), [block].as_slice(), "stream {stream}");
+    }
+    Ok(())
+}
