@@ -170,7 +170,7 @@ fn small_blocks(rt: HostRuntime) -> Result<(), Fail> {
     Ok(())
 }
 
-// What the streams of the same commit hold then, each of 512 bytes that are alike.
+// What the streams hold after such a commit, where stream 3 is short.
 #[test]
 fn edited_bytes(rt: HostRuntime) -> Result<(), Fail> {
     let alloc = rt.alloc();
