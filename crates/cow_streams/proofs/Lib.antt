@@ -12,3 +12,4 @@ pub mod Standing
 pub mod Loops
 pub mod LayoutLoops
 pub mod Outcome
+pub mod Covering

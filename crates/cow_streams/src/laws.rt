@@ -16,9 +16,9 @@ pub fn planned_is_plan()
 
 /// A law of any plan for a file, whatever else stands in the file or behind its end. With the old
 /// superblock, and the old bytes outside the writes, a file reads as the old streams with the old
-/// free blocks. With the new superblock, the writes in place, and the old bytes of the blocks that are
-/// kept, it reads as the edited streams, with the old block size and the old number without a known
-/// meaning.
+/// free blocks. With the new superblock, the writes in place, and the old bytes of the blocks that
+/// are kept, it reads as the edited streams, with the old block size and the old number without a
+/// known meaning.
 pub fn plan_of_a_file()
     ensures old { (limit : ℕ) (old : Image) (edits : List StreamEdit) (p : Planned)
         (streams : List (Option (List ℕ))) (file other : List ℕ) → IsPlan limit old edits p

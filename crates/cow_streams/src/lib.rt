@@ -2,6 +2,8 @@
 //! until the superblock turns.
 #![tactic(auto)]
 
+#[cfg(test)]
+mod checking;
 mod counting;
 mod edits;
 mod fault;
@@ -19,3 +21,6 @@ pub use crate::laws::{plan_of_a_file, planned_is_plan};
 pub use crate::planned::Plan;
 pub use crate::planning::plan;
 pub use crate::write::BlockWrite;
+
+#[cfg(test)]
+mod tests;

@@ -29,8 +29,8 @@ pub fn cut_block(
     Ok(block)
 }
 
-/// Puts the text of the directory and the block map, which lists these blocks, behind the writes. They
-/// take the given blocks that come next.
+/// Puts the text of the directory and the block map, which lists these blocks, behind the writes.
+/// They take the given blocks that come next.
 pub fn put_directory(
     alloc: Global,
     block_size: u32,
@@ -90,8 +90,8 @@ fn put_blocks(
     Ok(())
 }
 
-/// Puts the blocks of the map of this superblock that carry meaning behind the writes, where the map
-/// has this text.
+/// Puts the blocks of the map of this superblock that carry meaning behind the writes, where the
+/// map has this text.
 pub fn put_map(
     alloc: Global,
     head: &Super,
