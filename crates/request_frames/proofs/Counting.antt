@@ -72,6 +72,7 @@ module _ {S : Type 0} (answers : S → Asked → Message → S → Type 0) (faul
     no_more = s.no_more;
     bound = s.bound;
     talk = plain_talk old new s.frames s.replies s.talk;
+    replied = s.replied;
     sends = s.sends;
     ends = s.ends;
   }

@@ -8,3 +8,4 @@ mod OneTurn
 mod Refusing
 pub mod Serving
 pub mod Turns
+mod Finishing

@@ -75,7 +75,7 @@ module _ {L K G : Type 0} (s : source.Ghosts L) (k : sink.Ghosts L) (d : desk.Gh
           follows = λ last r t end h.
               let count : length frame ≡ length (frame_bytes one.0) = ap length one.5 in
               let h' = subst (λ v. IsSession (answers_with d) v (budget - length frame) new last r t end) behind h in
-              let rest = turn_session (answers_with d) version budget mid new last one.0 one.1 r t end one.2 one.3.0 one.4
+              let rest = turn_session (answers_with d) version budget mid new last one.0 one.1 r t end one.2 one.3.0 one.4 one.8
               (subst (λ xs. length xs ≤ budget) one.5 one.7) (subst (λ n. IsSession (answers_with d) (version_behind one.0) (budget - n) new last r t end) count h') in
               let read_is : so_far.read ++ (frame_bytes one.0 ++ r) ≡ so_far.read ++ frame ++ r = ap (λ xs. so_far.read ++ (xs ++ r)) (sym one.5) ∙ sym (append_assoc so_far.read frame r) in
               let sent_is : so_far.sent ++ (frame_bytes one.1 ++ t) ≡ so_far.sent ++ turn.sent.0 ++ t = ap (λ xs. so_far.sent ++ (xs ++ t)) (sym one.6) ∙ sym (append_assoc so_far.sent turn.sent.0 t) in

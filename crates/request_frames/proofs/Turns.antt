@@ -3,10 +3,13 @@ use Rattle.std.proofs.Common.{◌≡◌, ◌≤◌, ◌<◌, ◌+◌, ◌-◌, �
 use Rattle.std.proofs.lemmas.List.{append-nil}
 use Rattle.srv_edge.specs.declared.failed.SessionEnd.{SessionEnd}
 use Rattle.srv_edge.specs.declared.failed.SessionEnd.TheVariants.{Bye, Ended, CutShort, BadLength, ReadFault, WriteFault, TooLong}
-use Rattle.srv_edge.specs.Frames.{AreFrames, Frame, IsBye, IsFrame, IsLength, IsPartFrame, Message, ReadsNoMore, Tail, at_bye, at_end, bad_length, cut_short, frame_bytes, refused_length, session_text, stream_of, version_behind, word_bytes}
-use Rattle.srv_edge.proofs.Streams.{frames_bye}
+use Rattle.srv_edge.specs.Frames.{AreFrames, Frame, IsBye, IsFrame, IsLength, IsPartFrame, Message, ReadsNoMore, Tail, at_bye, at_end, bad_length, cut_short, frame_bytes, length_of, refused_length, session_text, stream_of, tag_bytes, version_behind, word_bytes}
+use Rattle.srv_edge.specs.Finished.{IsReply, IsReplyTo}
+use Rattle.srv_edge.specs.declared.piece.TheConstants.{PIECE_BYTES}
+use Rattle.srv_edge.proofs.Numbers.{length-word_bytes}
+use Rattle.srv_edge.proofs.Streams.{frames_bye, length-tag_bytes}
 use Rattle.request_frames.specs.Requests.{Asked}
-use Rattle.request_frames.specs.Talk.{AnswersFrame}
+use Rattle.request_frames.specs.Talk.{AnswersFrame, AnswersMessage}
 use Rattle.request_frames.specs.Session.{EndsAt, IsSession, Sends}
 use Rattle.request_frames.specs.Next.{Follows, IsLess, IsTurn}
 use Rattle.request_frames.specs.declared.serve.Turn.{Turn}
@@ -71,11 +74,35 @@ refused_ends TooLong version n count limit e = absurd (⊎_elim (λ x. cc) (λ x
 refused_ends ReadFault version n count limit e = absurd (⊎_elim (λ x. cc) (λ x. cc) e)
 refused_ends WriteFault version n count limit e = tt
 
+-- a frame is its length and what that says
+length-frame_bytes : (f : Frame) → length (frame_bytes f) ≡ 4 + length_of f
+length-frame_bytes f = omega (
+  arith,
+  length-append (word_bytes (length_of f)) (f.message.kind ∷ (tag_bytes f.head ++ f.message.body)),
+  length-word_bytes (length_of f),
+  length-append (tag_bytes f.head) f.message.body,
+  length-tag_bytes f.head,
+)
+
 module _ {S : Type 0} (answers : S → Asked → Message → S → Type 0) where
+  -- an answer has the kind that its frame asks for, or it is a refusal
+  answer_kind : (version : ℕ) (old new : S) (m reply : Message) → AnswersMessage answers version old m reply new → IsReplyTo m reply
+  answer_kind version old new m reply (inl answer) = answer.4
+  answer_kind version old new m reply (inr (inl bad)) = inr (ap (λ r. r.kind) bad.1)
+  answer_kind version old new m reply (inr (inr bad)) = inr (ap (λ r. r.kind) bad.1)
+
+  -- what answers a frame and fits a piece is its reply
+  pub answer_is_reply : (old new : S) (f reply : Frame) → AnswersFrame answers old f reply new → length (frame_bytes reply) ≤ PIECE_BYTES → IsReply f reply
+  answer_is_reply old new f reply answered short = record {
+    same_head = answered.0;
+    of_kind = answer_kind f.head.version old new f.message reply.message answered.1;
+    fits = omega (arith, short, length-frame_bytes reply);
+  }
+
   -- a session of one frame, of which the whole reply was sent: a Bye
-  pub bye_session : (version limit : ℕ) (old new : S) (f reply : Frame) → IsFrame version f → IsBye f → AnswersFrame answers old f reply new → length (frame_bytes f) ≤ limit
+  pub bye_session : (version limit : ℕ) (old new : S) (f reply : Frame) → IsFrame version f → IsBye f → AnswersFrame answers old f reply new → IsReply f reply → length (frame_bytes f) ≤ limit
       → IsSession answers version limit old new (frame_bytes f) (frame_bytes reply) Bye
-  bye_session version limit old new f reply is bye answered le = record {
+  bye_session version limit old new f reply is bye answered is_reply le = record {
     frames = f ∷ [];
     tail = at_bye;
     replies = reply ∷ [];
@@ -83,15 +110,16 @@ module _ {S : Type 0} (answers : S → Asked → Message → S → Type 0) where
     no_more = sym (append-nil (frame_bytes f));
     bound = le;
     talk = (new, answered, refl);
+    replied = (is_reply, tt);
     sends = sym (append-nil (frame_bytes reply));
     ends = refl;
   }
 
   -- a session of one frame, of which a part of the reply was sent
   pub fault_session : (turn : Turn) (version limit : ℕ) (old new : S) (f reply : Frame) (sent more : List ℕ) → IsFrame version f → Follows turn f
-      → AnswersFrame answers old f reply new → length (frame_bytes f) ≤ limit → frame_bytes reply ≡ sent ++ more → 0 < length more
+      → AnswersFrame answers old f reply new → IsReply f reply → length (frame_bytes f) ≤ limit → frame_bytes reply ≡ sent ++ more → 0 < length more
       → IsSession answers version limit old new (frame_bytes f) sent WriteFault
-  fault_session turn version limit old new f reply sent more is follows answered le part some = record {
+  fault_session turn version limit old new f reply sent more is follows answered is_reply le part some = record {
     frames = f ∷ [];
     tail = tail_behind turn;
     replies = reply ∷ [];
@@ -99,25 +127,26 @@ module _ {S : Type 0} (answers : S → Asked → Message → S → Type 0) where
     no_more = one_no_more turn f;
     bound = le;
     talk = (new, answered, refl);
+    replied = (is_reply, tt);
     sends = (more, one_text turn reply ∙ part, some);
     ends = tt;
   }
 
   -- a frame was answered, and the whole reply was sent
   pub answered_turn : (turn : Turn) (version limit : ℕ) (old new : S) (f reply : Frame) (read : List ℕ) → IsFrame version f → Follows turn f
-      → AnswersFrame answers old f reply new → frame_bytes f ≡ read → length read ≤ limit → IsTurn answers version limit old new read (frame_bytes reply) turn
-  answered_turn (GoesOn next) version limit old new f reply read is follows answered spelled le = (f, reply, is, follows, answered, sym spelled, refl, le)
-  answered_turn (Ends end) version limit old new f reply read is follows answered spelled le =
+      → AnswersFrame answers old f reply new → IsReply f reply → frame_bytes f ≡ read → length read ≤ limit → IsTurn answers version limit old new read (frame_bytes reply) turn
+  answered_turn (GoesOn next) version limit old new f reply read is follows answered is_reply spelled le = (f, reply, is, follows, answered, sym spelled, refl, le, is_reply)
+  answered_turn (Ends end) version limit old new f reply read is follows answered is_reply spelled le =
       subst (λ e. IsSession answers version limit old new read (frame_bytes reply) e) (sym follows.0)
       (subst (λ xs. IsSession answers version limit old new xs (frame_bytes reply) Bye) spelled
-      (bye_session version limit old new f reply is follows.1 answered (subst (λ xs. length xs ≤ limit) (sym spelled) le)))
+      (bye_session version limit old new f reply is follows.1 answered is_reply (subst (λ xs. length xs ≤ limit) (sym spelled) le)))
 
   -- a session behind one more turn
   pub turn_session : (version limit : ℕ) (old mid new : S) (f reply : Frame) (read sent : List ℕ) (end : SessionEnd) → IsFrame version f → ¬ IsBye f
-      → AnswersFrame answers old f reply mid → length (frame_bytes f) ≤ limit
+      → AnswersFrame answers old f reply mid → IsReply f reply → length (frame_bytes f) ≤ limit
       → IsSession answers (version_behind f) (limit - length (frame_bytes f)) mid new read sent end
       → IsSession answers version limit old new (frame_bytes f ++ read) (frame_bytes reply ++ sent) end
-  turn_session version limit old mid new f reply read sent end is goes answered le s =
+  turn_session version limit old mid new f reply read sent end is goes answered is_reply le s =
       let count : length (frame_bytes f ++ read) ≡ length (frame_bytes f) + length read = length-append (frame_bytes f) read in
       record {
         frames = f ∷ s.frames;
@@ -127,6 +156,7 @@ module _ {S : Type 0} (answers : S → Asked → Message → S → Type 0) where
         no_more = more_read f read s.frames s.tail s.no_more;
         bound = omega (arith, count, le, s.bound);
         talk = (mid, answered, s.talk);
+        replied = (is_reply, s.replied);
         sends = more_sent end (frame_bytes reply) sent (session_text s.replies s.tail) (session_text (reply ∷ s.replies) s.tail) (more_text reply s.replies s.tail) s.sends;
         ends = rw count (more_ends end s.tail (length (frame_bytes f)) (length read) limit le s.ends);
       }
@@ -141,6 +171,7 @@ module _ {S : Type 0} (answers : S → Asked → Message → S → Type 0) where
     no_more = none;
     bound = omega (arith, ap length none, some);
     talk = refl;
+    replied = tt;
     sends = refl;
     ends = (refl, omega (arith, ap length none, some));
   }
@@ -155,6 +186,7 @@ module _ {S : Type 0} (answers : S → Asked → Message → S → Type 0) where
     no_more = (read, refl);
     bound = omega (arith, lt);
     talk = refl;
+    replied = tt;
     sends = refl;
     ends = (refl, lt);
   }
@@ -170,6 +202,7 @@ module _ {S : Type 0} (answers : S → Asked → Message → S → Type 0) where
         no_more = none;
         bound = omega (arith, is);
         talk = refl;
+        replied = tt;
         sends = refl;
         ends = (inl refl, is);
       })
@@ -181,6 +214,7 @@ module _ {S : Type 0} (answers : S → Asked → Message → S → Type 0) where
         no_more = (read, refl);
         bound = omega (arith, is);
         talk = refl;
+        replied = tt;
         sends = refl;
         ends = (inr refl, is);
       })
@@ -196,6 +230,7 @@ module _ {S : Type 0} (answers : S → Asked → Message → S → Type 0) where
         no_more = none;
         bound = omega (arith, lt);
         talk = refl;
+        replied = tt;
         sends = refl;
         ends = (inl refl, lt);
       })
@@ -207,6 +242,7 @@ module _ {S : Type 0} (answers : S → Asked → Message → S → Type 0) where
         no_more = (read, refl);
         bound = omega (arith, lt);
         talk = refl;
+        replied = tt;
         sends = refl;
         ends = (inr refl, lt);
       })
@@ -223,6 +259,7 @@ module _ {S : Type 0} (answers : S → Asked → Message → S → Type 0) where
     no_more = is;
     bound = le;
     talk = refl;
+    replied = tt;
     sends = sends;
     ends = refused_ends end version n (length read) limit ends;
   }

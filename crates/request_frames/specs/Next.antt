@@ -1,6 +1,7 @@
 -- What a session reads next, and one turn of its loop.
 use Rattle.std.specs.Prelude.{◌≡◌, ◌≤◌, ◌<◌, ◌^◌, ◌⊎◌, ⊤, ℕ, List, [], ◌++◌, length}
 use Rattle.srv_edge.specs.declared.failed.SessionEnd.TheVariants.{Bye, WriteFault}
+use Rattle.srv_edge.specs.Finished.{IsReply}
 use Rattle.srv_edge.specs.Frames.{Frame, IsBye, IsFrame, IsLength, IsPartFrame, Message, frame_bytes, spoken, version_behind, word_bytes}
 use Rattle.request_frames.specs.Requests.{Asked, hello, add_type, add_item, add_name, get_type, get_item, get_name, counts, bye, add_types, add_items}
 use Rattle.request_frames.specs.Talk.{AnswersFrame}
@@ -60,7 +61,7 @@ Follows (Ends end) f = (end ≡ Bye) × IsBye f
 -- One turn from a version on: a frame was answered and the session goes on, or it ended.
 abbrev pub IsTurn : {S : Type 0} → (S → Asked → Message → S → Type 0) → ℕ → ℕ → S → S → List ℕ → List ℕ → Turn → Type 0
 IsTurn answers version limit old new read sent (GoesOn next) = (f : Frame) × (reply : Frame) × IsFrame version f × Follows (GoesOn next) f
-    × AnswersFrame answers old f reply new × (read ≡ frame_bytes f) × (sent ≡ frame_bytes reply) × (length read ≤ limit)
+    × AnswersFrame answers old f reply new × (read ≡ frame_bytes f) × (sent ≡ frame_bytes reply) × (length read ≤ limit) × IsReply f reply
 IsTurn answers version limit old new read sent (Ends end) = IsSession answers version limit old new read sent end
 
 -- what follows an answered frame: another turn, or an end that is none of the source's

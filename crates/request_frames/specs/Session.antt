@@ -2,6 +2,7 @@
 use Rattle.std.specs.Prelude.{◌≡◌, ◌≤◌, ◌<◌, ◌⊎◌, ⊤, ℕ, List, ◌++◌, length}
 use Rattle.srv_edge.specs.declared.failed.SessionEnd.{SessionEnd}
 use Rattle.srv_edge.specs.declared.failed.SessionEnd.TheVariants.{Bye, Ended, CutShort, BadLength, ReadFault, WriteFault, TooLong}
+use Rattle.srv_edge.specs.Finished.{AreReplies}
 use Rattle.srv_edge.specs.Frames.{Frame, Message, Tail, at_end, cut_short, bad_length, at_bye, AreFrames, ReadsNoMore, session_text}
 use Rattle.request_frames.specs.Requests.{Asked}
 use Rattle.request_frames.specs.Talk.{IsTalk}
@@ -50,5 +51,6 @@ pub record IsSession {S : Type 0} (answers : S → Asked → Message → S → T
   pub no_more : ReadsNoMore read frames tail
   pub bound : length read ≤ limit
   pub talk : IsTalk answers old frames replies new
+  pub replied : AreReplies frames replies
   pub sends : Sends end sent (session_text replies tail)
   pub ends : EndsAt end tail (length read) limit

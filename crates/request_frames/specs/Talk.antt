@@ -5,11 +5,8 @@ use Rattle.srv_edge.specs.declared.kind.TheConstants as kinds
 use Rattle.srv_edge.specs.declared.head.Head.{Head}
 use Rattle.srv_edge.specs.Count.{HasCause}
 use Rattle.srv_edge.specs.Frames.{Frame, Message, frame_bytes, refused}
+pub use Rattle.srv_edge.specs.Finished.{IsReplyTo}
 use Rattle.request_frames.specs.Requests.{Asked, IsAsked, IsBadBody, IsKind, request_message}
-
--- a reply has the kind that its request asks for, or it is a refusal
-abbrev pub IsReplyTo : Message → Message → Type 0
-IsReplyTo request reply = (reply.kind ≡ request.kind + kinds.REPLY) ⊎ (reply.kind ≡ kinds.REFUSED)
 
 -- whether a reply is a refusal for a fault of the device
 abbrev pub is_disk_fault : Message → Bool

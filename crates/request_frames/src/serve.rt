@@ -1,7 +1,9 @@
 ghost use Rattle.std.specs.Prelude.{◌≡◌, ◌≤◌, ◌⊎◌, ◌++◌, ℕ, List, [], length};
 ghost use Rattle.srv_edge.specs.Count.{Rose};
 ghost use Rattle.srv_edge.specs.Exchange.{CallsSink, WentTo};
+ghost use Rattle.srv_edge.specs.Finished.{FinishesFresh};
 ghost use Rattle.srv_edge.specs.Frames.{IsFrame, IsLength, IsVersion, frame_bytes, refused_length, spoken, word_bytes};
+ghost use Rattle.srv_edge.specs.declared.limit.TheConstants.{SESSION_BYTES};
 ghost use Rattle.request_frames.specs.Requests.{asked, frame_in};
 ghost use Rattle.request_frames.specs.Session.{Sends};
 ghost use Rattle.request_frames.specs.Serving.{EndsByInput, PutsAnswer, SendsTurn, Serves, TakesTurn};
@@ -179,6 +181,9 @@ pub fn serve_link<L: Link, K: Desk>(
     ensures end { EndsByInput L.Source.tells limit (L.left link.old)
         (Rose (L.Source.faults link.old) (L.Source.faults link.new))
         (Rose (L.Sink.faults link.old) (L.Sink.faults link.new)) result }
+    // A fresh link is finished, where the limit is that of a server.
+    ensures finished { limit ≡ SESSION_BYTES
+        → FinishesFresh L.Source L.Sink link.old result link.new }
 {
     let mut version = 1;
     let mut budget = limit;

@@ -10,3 +10,4 @@ pub mod Settled
 pub mod Exchanging
 mod Existing
 pub mod Versions
+mod Window

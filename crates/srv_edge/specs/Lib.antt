@@ -18,3 +18,9 @@ pub mod Images
 pub mod Standard
 pub mod Exchange
 pub mod Name
+pub mod Door
+pub mod Finished
+pub mod MemoryLink
+pub mod MemoryDoor
+pub mod UnixLink
+pub mod UnixDoor

@@ -23,5 +23,7 @@ pub const FRAME_BYTES: u32 = 65_537;
 pub const RECORD_BYTES: u32 = 65_536;
 /// The most bytes of a name.
 pub const NAME_BYTES: u32 = 65_535;
+/// The most bytes that a session of a server reads.
+pub const SESSION_BYTES: u64 = 4_294_967_296;
 /// The most records of one list.
 pub const LIST_RECORDS: u32 = 4_096;

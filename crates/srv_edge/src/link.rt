@@ -1,4 +1,5 @@
 ghost use Rattle.std.specs.Prelude.{◌≡◌};
+ghost use Rattle.srv_edge.specs.Finished.{TellsSame};
 
 use crate::sink::Sink;
 use crate::source::Source;
@@ -6,6 +7,13 @@ use crate::source::Source;
 /// Both ways of one client. A take changes none of its meanings as a sink, and a give none of its
 /// meanings as a source: the laws say that `beside` of each half tells the other.
 pub trait Link: Source + Sink {
+    /// Ends both streams, so that a client which waits for their end gets it. It is for links that
+    /// are used no more, and changes nothing that they tell. A link that has nothing to end does
+    /// nothing.
+    fn shutdown(&mut self)
+        ensures { TellsSame Self.Source Self.Sink self.old self.new }
+    {}
+
     ghost beside_source_taken: { (l : Self) → (Self.Source.beside l).bytes ≡ Self.taken l };
 
     ghost beside_source_faults: { (l : Self) → (Self.Source.beside l).faults ≡ Self.Sink.faults l };

@@ -1,9 +1,19 @@
-use crate::{CallKind, Device, FileDevice, MemDevice, StillDevice};
+ghost use Rattle.std.specs.Prelude.{◌≤◌, ◌<◌, ◌^◌};
+
+use crate::ahead::Ahead;
+use crate::{
+    Accepted, CallKind, Device, Door, FileDevice, Link, MemDevice, SessionEnd, Sink, Source,
+    StillDevice, UnixDoor,
+};
 use std::alloc::{AllocError, Global};
 use std::fs::{File, Metadata, OpenFile};
-use std::io;
-use std::os::unix::fs::FileExt;
+use std::io::{Read, Write};
+use std::net::Net;
+use std::os::unix::fs::{FileExt, FileTypeExt, PermissionsExt};
+use std::os::unix::net::UnixStream;
+use std::process::Abort;
 use std::test::Fail;
+use std::{fs, io};
 
 // A file with the same byte in each place of its head, zeros up to 512, and then these bytes.
 fn file_of(alloc: Global, head: u8, rest: &[u8], fill: u8) -> Result<Vec<u8>, AllocError> {
@@ -285,5 +295,116 @@ fn thousands_of_calls_are_kept(rt: HostRuntime) -> Result<(), Fail> {
     assert_eq!(rt; device.image(calls, 0xee, false)?, want);
     assert_eq!(rt; device.kind_at(4000), Some(CallKind::Write { at: 4512 }));
     assert_eq!(rt; device.kind_at(4999), Some(CallKind::Write { at: 5511 }));
+    Ok(())
+}
+
+// A stream that gives ten bytes, then five, and then ends.
+#[derive(Drop)]
+struct TwoPieces {
+    reads: u32,
+}
+
+impl Read for TwoPieces {
+    fn read(&mut self, buf: &mut [u8]) -> io::Result<usize> {
+        let piece: &[u8] = match self.reads {
+            0 => b"abcdefghij",
+            1 => b"klmno",
+            _ => b"",
+        };
+        self.reads = self.reads.saturating_add(1);
+        let n = buf.len().min(piece.len());
+        buf[..n].copy_from_slice(&piece[..n]);
+        Ok(n)
+    }
+}
+
+// Each piece takes one read, in however many takes it is asked for.
+#[test]
+fn bytes_are_read_ahead(rt: HostRuntime) {
+    let mut stream = TwoPieces { reads: 0 };
+    let mut ahead = Ahead::new();
+    let mut into = [0; 6];
+    let table: [(usize, &[u8], u32); 6] = [
+        (4, b"abcd", 1),
+        (6, b"efghij", 1),
+        (2, b"kl", 2),
+        (2, b"mn", 2),
+        (2, b"o", 2),
+        (6, b"", 3),
+    ];
+    for (room, want, reads) in table {
+        assert!(rt; 0 < room && room <= into.len());
+        let n = ahead.read(&mut stream, &mut into[..room]).ok();
+        assert_eq!(rt; n, Some(want.len()));
+        assert!(rt; want.len() <= into.len());
+        assert_eq!(rt; &into[..want.len()], want);
+        assert_eq!(rt; stream.reads, reads);
+    }
+}
+
+// Serves two clients. One has the end of its stream before its link is given back, and one is gone
+// before it has its reply, which is a write fault.
+fn serve_two<R: Abort + Net>(
+    rt: &R,
+    alloc: Global,
+    path: &str,
+    door: &mut UnixDoor,
+) -> Result<(), Fail>
+    requires few { ⟦<UnixDoor as Door>⟧.handed door.old < 2 ^ 62 }
+    requires returned { ⟦<UnixDoor as Door>⟧.returned door.old
+        ≤ ⟦<UnixDoor as Door>⟧.handed door.old }
+{
+    let mut first = UnixStream::connect(rt, path)?;
+    let mut second = UnixStream::connect(rt, path)?;
+    first.write_all(b"abcde")?;
+    second.write_all(b"x")?;
+    let (Accepted::Link(mut one), Accepted::Link(mut two)) = (door.accept(), door.accept()) else {
+        return Err(Fail::new("no client came"));
+    };
+    let mut into = [0; 8];
+    assert_eq!(rt; one.take(&mut into[..3]).ok(), Some(3));
+    assert_eq!(rt; one.take(&mut into[3..]).ok(), Some(2));
+    assert_eq!(rt; two.take(&mut into[5..]).ok(), Some(1));
+    assert_eq!(rt; into, *b"abcdex\0\0");
+    assert_eq!(rt; one.give(b"reply").ok(), Some(5));
+    one.shutdown();
+    let mut got = Vec::new(alloc);
+    first.read_to_end(&mut got)?;
+    assert_eq!(rt; got.as_slice(), b"reply".as_slice());
+    drop(second);
+    assert!(rt; two.give(b"y").is_err());
+    door.done(one, SessionEnd::Bye);
+    door.done(two, SessionEnd::WriteFault);
+    Ok(())
+}
+
+// A socket is private, and a second server at it is refused and costs no session. One that was left
+// is replaced, and one that was closed is gone. What is no socket stays.
+#[test]
+fn a_real_socket(rt: HostRuntime) -> Result<(), Fail> {
+    let alloc = rt.alloc();
+    let folder = std::env::temp_dir(&rt)?;
+    let id = std::process::id(rt.process());
+    let path = format!(in alloc; "{}/srv_edge-{id}.socket", folder.as_str())?;
+    let path = path.as_str();
+    let mut door = UnixDoor::listen(&rt, alloc, path)?;
+    let there = fs::symlink_metadata(&rt, path)?;
+    assert!(rt; there.file_type().is_socket());
+    assert_eq!(rt; there.permissions().mode() & 0o777, 0o600);
+    let mut second = UnixDoor::listen(&rt, alloc, path)?;
+    assert!(rt; matches!(second.accept(), Accepted::Failed));
+    serve_two(&rt, alloc, path, &mut door)?;
+
+    drop(door);
+    assert!(rt; UnixStream::connect(&rt, path).is_err());
+    let door = UnixDoor::listen(&rt, alloc, path)?;
+    let _client = UnixStream::connect(&rt, path)?;
+    door.close(&rt);
+    assert!(rt; fs::symlink_metadata(&rt, path).is_err());
+    fs::write(&rt, path, b"no socket")?;
+    let mut door = UnixDoor::listen(&rt, alloc, path)?;
+    assert!(rt; matches!(door.accept(), Accepted::Failed));
+    assert_eq!(rt; fs::read(&rt, path)?.as_slice(), b"no socket".as_slice());
+    fs::remove_file(&rt, path)?;
     Ok(())
 }

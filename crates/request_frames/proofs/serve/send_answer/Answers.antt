@@ -1,11 +1,12 @@
 use Rattle.std.proofs.Common.{◌≡◌, ◌≤◌, ◌++◌, length, sym, ap, subst, ◌∙◌}
 use Rattle.srv_edge.specs.declared.failed.SessionEnd.TheVariants.{WriteFault}
+use Rattle.srv_edge.specs.declared.piece.TheConstants.{PIECE_BYTES}
 use Rattle.srv_edge.specs.Frames.{frame_bytes}
 use Rattle.request_frames.specs.Requests.{frame_in}
 use Rattle.request_frames.specs.Serving.{answers_with}
 use Rattle.request_frames.specs.Session.{IsSession}
 use Rattle.request_frames.proofs.Following.{is_answered}
-use Rattle.request_frames.proofs.Turns.{answered_turn, fault_session}
+use Rattle.request_frames.proofs.Turns.{answer_is_reply, answered_turn, fault_session}
 use Rattle.request_frames.proofs.serve.send_answer.Goals as goal
 
 pub returns-in-Err-clause-sent : goal.returns-in-Err-clause-sent
@@ -20,7 +21,8 @@ returns-in-Err-clause-sent g c =
       went.0,
       subst (λ read. IsSession (answers_with g.K.Desk) c.args.version c.args.limit c.args.desk.now c.answer_frame-turn.new.desk read went.0 WriteFault) spelled
           (fault_session (answers_with g.K.Desk) c.answer_frame-turn.result c.args.version c.args.limit c.args.desk.now c.answer_frame-turn.new.desk f answer.0 went.0 went.1
-          answered.is_frame answered.follows answer.2 le part went.3),
+          answered.is_frame answered.follows answer.2
+          (answer_is_reply (answers_with g.K.Desk) c.args.desk.now c.answer_frame-turn.new.desk f answer.0 answer.2 (subst (λ xs. length xs ≤ PIECE_BYTES) answer.1 c.bytes.ensures.bound)) le part went.3),
       went.4,
     )
 
@@ -33,7 +35,8 @@ returns-in-Ok-clause-sent g c =
     let text : c.bytes.result.now ≡ frame_bytes answer.0 = c.bytes.ensures.bytes ∙ answer.1 in (
       frame_bytes answer.0,
       answered_turn (answers_with g.K.Desk) c.answer_frame-turn.result c.args.version c.args.limit c.args.desk.now c.answer_frame-turn.new.desk f answer.0 c.args.frame.now
-          answered.is_frame answered.follows answer.2 spelled c.requires.within,
+          answered.is_frame answered.follows answer.2
+          (answer_is_reply (answers_with g.K.Desk) c.args.desk.now c.answer_frame-turn.new.desk f answer.0 answer.2 (subst (λ xs. length xs ≤ PIECE_BYTES) answer.1 c.bytes.ensures.bound)) spelled c.requires.within,
       λ tells. c.in-Ok.ensures.went tells ∙ ap (λ xs. g.L.Sink.taken c.args.link.now ++ xs) text,
     )
 

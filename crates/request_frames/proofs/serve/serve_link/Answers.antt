@@ -1,4 +1,5 @@
 use Rattle.std.proofs.Common.{◌-◌, subst, sym}
+use Rattle.request_frames.proofs.Finishing.{finishes}
 use Rattle.request_frames.proofs.Serving.{SoFar, ends_by_input, goes_on, none_so_far, served}
 use Rattle.request_frames.proofs.serve.serve_link.Goals as goal
 
@@ -21,3 +22,8 @@ pub returns-in-Ends-clause-end : goal.returns-in-Ends-clause-end
 returns-in-Ends-clause-end g c =
     let s = served g.L.Source g.L.Sink g.K.Desk c.args.limit c.args.link.now c.args.desk.now c.frames.version c.frames.budget c.frames.link c.serve_next.new.link c.frames.desk c.serve_next.new.desk c.serve_next.new.room.frame c.frames.invariant c.in-Ends.end c.in-Ends.ensures in
     ends_by_input g.L.Source g.L.Sink g.K.Desk c.args.limit c.args.link.now c.args.desk.now c.serve_next.new.link c.serve_next.new.desk c.in-Ends.end s
+
+pub returns-in-Ends-clause-finished : goal.returns-in-Ends-clause-finished
+returns-in-Ends-clause-finished g c = λ is.
+    let s = served g.L.Source g.L.Sink g.K.Desk c.args.limit c.args.link.now c.args.desk.now c.frames.version c.frames.budget c.frames.link c.serve_next.new.link c.frames.desk c.serve_next.new.desk c.serve_next.new.room.frame c.frames.invariant c.in-Ends.end c.in-Ends.ensures in
+    finishes g.L.Source g.L.Sink g.K.Desk c.args.limit c.args.link.now c.serve_next.new.link c.args.desk.now c.serve_next.new.desk c.in-Ends.end is s
