@@ -13,3 +13,4 @@ pub mod Loops
 pub mod LayoutLoops
 pub mod Outcome
 pub mod Covering
+pub mod NewFile

@@ -16,7 +16,7 @@ use Rattle.cow_streams.proofs.Lists.{each_weaker}
 use Rattle.cow_streams.proofs.Numbering.{length-numbers, number_kept}
 use Rattle.cow_streams.proofs.Turning.{keeps_old, takes_new}
 use Rattle.cow_streams.proofs.Wholeness.{is_complete, is_whole}
-use Rattle.cow_streams.proofs.Writes.{all_sparing, all_stand, blocks_once, kept_unwritten, rising}
+use Rattle.cow_streams.proofs.Writes.{all_sparing, all_stand, blocks_once, kept_unreserved, kept_unwritten, rising}
 
 -- ---- blocks that keep their numbers
 
@@ -79,6 +79,7 @@ plan_is limit old edits whole are fits directory few =
           (all_stand size file p.writes (omega (arith, least)) (each_weaker (IsSparing old (new_head old edits)) (λ w. length w.bytes ≡ size) p.writes (λ w is. is.whole) sparing) (blocks_once old edits whole));
       shares = shares_planned old edits;
       unwritten = kept_unwritten old edits whole are;
+      unreserved = kept_unreserved old edits whole are;
       keeps = keeps_old limit old (new_head old edits) p.writes all;
       takes = λ streams file other r takes. takes_new limit old edits whole are fits directory few streams file other r takes;
     }

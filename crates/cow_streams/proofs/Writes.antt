@@ -106,11 +106,11 @@ all_stand size file (w ∷ writes) some whole once =
 
 -- ---- the blocks of a map
 
-map_blocks_of : (s : Super) (text : List ℕ) (a n : ℕ) → blocks_in_writes (map (λ j. record { block = map_block s.block s.map j; bytes = block_of s.block text j }) (range_with_len a n)) ≡ map (map_block s.block s.map) (range_with_len a n)
+pub map_blocks_of : (s : Super) (text : List ℕ) (a n : ℕ) → blocks_in_writes (map (λ j. record { block = map_block s.block s.map j; bytes = block_of s.block text j }) (range_with_len a n)) ≡ map (map_block s.block s.map) (range_with_len a n)
 map_blocks_of s text a zero = refl
 map_blocks_of s text a (suc n) = ap (λ bs. map_block s.block s.map a ∷ bs) (map_blocks_of s text (a + 1) n)
 
-map_rises : (s : Super) (a n : ℕ) → 0 < s.block → Rises (map (map_block s.block s.map) (range_with_len a n))
+pub map_rises : (s : Super) (a n : ℕ) → 0 < s.block → Rises (map (map_block s.block s.map) (range_with_len a n))
 map_rises s a zero some = tt
 map_rises s a (suc n) some = (
   each_place (λ y. map_block s.block s.map a < y) (map_block s.block s.map) (a + 1) n (λ k from to. let more = mul-le (a + 1) s.block k s.block from (omega arith) in omega (arith, more, suc-mul a s.block, some)),
@@ -229,3 +229,8 @@ module _ (old : Image) (edits : List StreamEdit) where
       All-from_recursion (λ w. w.block ≡ b → ⊥) writes
       (unwritten_from writes b (subst (λ bs. Misses bs b) (sym blocks_split) (each_append (λ x. x ≡ b → ⊥) given (blocks_in_writes map_part) misses (map_misses b whole is.unreserved)))))
       (kept_old old edits whole are) (given_across old edits whole are))
+
+  pub kept_unreserved : IsWhole old → AreEdits old.head.block old.directory edits → All (λ b. ¬ IsReserved old.head.block b) (kept_blocks old edits)
+  kept_unreserved whole are =
+      let Unreserved = λ (b : ℕ). ¬ IsReserved old.head.block b in
+      All-from_recursion Unreserved (kept_blocks old edits) (each_weaker (IsOldBlock old) Unreserved (kept_blocks old edits) (λ b is. is.unreserved) (kept_old old edits whole are))

@@ -4,3 +4,4 @@ pub mod Layout
 pub mod Planned
 pub mod Plan
 pub mod Freeing
+pub mod Packing

@@ -70,6 +70,7 @@ pub record IsPlan (limit : ℕ) (old : Image) (edits : List StreamEdit) (p : Pla
   -- a block that no edit has keeps its number, and is not written
   pub shares : (i : ℕ) → 1 ≤ i → SharesBlocks old.head.block edits i (stream_at old.directory i) (stream_at p.image.directory i)
   pub unwritten : All (IsUnwritten p.writes) (kept_blocks old edits)
+  pub unreserved : All (λ b. ¬ IsReserved old.head.block b) (kept_blocks old edits)
   -- with the old superblock a file reads as before, whatever stands in the blocks that are written
   pub keeps : (streams : List (Option (List ℕ))) (file other : List ℕ) → Reads file limit old streams
       → KeepsOld old p.writes file other → Reads other limit old streams

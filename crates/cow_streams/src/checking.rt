@@ -1,4 +1,4 @@
-//! Whether edits may be planned, for tests.
+//! Whether edits may be planned.
 
 ghost use Rattle.std.specs.Prelude.{◌≡◌, ◌≤◌, ◌<◌, ◌+◌, ◌*◌, ◌^◌, ℕ, IsTrue, Some, length};
 ghost use Rattle.msf_blocks.specs.Blocks.{IsBlockSize};
@@ -13,7 +13,7 @@ use msf_blocks::{Edit, block_offset, blocks_of_size};
 use msf_image::Image;
 use stream_directory::{ABSENT_SIZE, Directory, Stream};
 
-// Whether edits meet the conditions of a plan.
+/// Whether edits meet the conditions of a plan.
 pub fn may_plan(image: &Image, edits: &[Edit]) -> bool
     requires { IsWhole image.now }
     ensures edits { IsTrue result → AreEdits image.now.head.block image.now.directory edits.now }

@@ -1,11 +1,15 @@
-ghost use Rattle.std.specs.Prelude.{◌≡◌, ◌≤◌, ◌<◌, ◌^◌, ℕ, List, Option};
+ghost use Rattle.std.specs.Prelude.{◌≡◌, ◌≤◌, ◌<◌, ◌^◌, ℕ, List, [], All, Option, length};
+ghost use Rattle.srv_edge.specs.Disk.{with_head};
 ghost use Rattle.msf_blocks.specs.Edit.{StreamEdit};
+ghost use Rattle.msf_blocks.specs.Superblock.{superblock_text};
 ghost use Rattle.msf_image.specs.declared.image.Image.{Image};
+ghost use Rattle.msf_image.specs.Packed.{IsPackable, packed_file, packed_super};
 ghost use Rattle.msf_image.specs.Reads.{IsWhole};
 ghost use Rattle.msf_image.specs.Relation.{Reads};
 ghost use Rattle.cow_streams.specs.Edits.{AreEdits, edited};
+ghost use Rattle.cow_streams.specs.Packing.{new_plan};
 ghost use Rattle.cow_streams.specs.Plan.{IsPlan, KeepsOld, TakesNew};
-ghost use Rattle.cow_streams.specs.Planned.{FitsDirectory, Planned, new_blocks, planned};
+ghost use Rattle.cow_streams.specs.Planned.{FitsDirectory, Planned, new_blocks, planned, with_writes};
 
 /// A law: what is planned for edits that fit is what a writer may rest on.
 pub fn planned_is_plan()
@@ -28,4 +32,15 @@ pub fn plan_of_a_file()
         (streams : List (Option (List ℕ))) (file other : List ℕ) → IsPlan limit old edits p
         → Reads file limit old streams → TakesNew old edits p file other
         → Reads other limit p.image (edited edits streams) }
+{}
+
+/// A law: the plan of a new file writes whole blocks behind the superblock's and in the file, and these
+/// writes and the superblock, made on an empty file, leave the packed file of its streams.
+pub fn new_plan_packs()
+    ensures placed { (size : ℕ) (streams : List (Option (List ℕ))) → IsPackable size streams
+        → All (λ w. (1 ≤ w.block) × (w.block < (packed_super size 0 streams).blocks)
+        × (length w.bytes ≡ size)) (new_plan size streams).writes }
+    ensures packed { (size : ℕ) (streams : List (Option (List ℕ))) → IsPackable size streams
+        → with_head (with_writes size [] (new_plan size streams).writes)
+        (superblock_text (packed_super size 0 streams)) ≡ packed_file size 0 streams }
 {}

@@ -1,4 +1,4 @@
-mod Moments
+pub mod Moments
 pub mod Joining
 pub mod Superblocks
 pub mod Listed
@@ -12,3 +12,4 @@ pub mod Laying
 pub mod PackedStreams
 pub mod PackedFile
 pub mod PackedLoops
+pub mod Sizes

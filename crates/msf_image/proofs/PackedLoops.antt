@@ -208,18 +208,21 @@ image_as size dir_bytes map_addr streams directory free bytes addr spelled none 
     ∙ ap (λ a. image_made size dir_bytes a (packed_directory size streams) (none_of (a + 1))) addr
     ∙ ap (λ n. image_made size n (packed_map_addr size streams) (packed_directory size streams) (none_of (packed_map_addr size streams + 1))) bytes
 
--- the file of its parts
-pub packed_of : (size : ℕ) (xs : List (List ℕ)) (image : Image) (text listed map1 content : List ℕ) → image ≡ packed_image size 0 (present xs) → text ≡ directory_text image.directory → listed ≡ packed_listed size (present xs)
-    → map1 ≡ map_text size image.free → content ≡ flat_map (filled size) xs ++ (filled size text ++ flat_map word listed)
-    → file_of image.head.block (superblock_text image.head) map1 content image.head.blocks ≡ packed_file size 0 (present xs)
+-- the content of its parts
+pub content_as : (size : ℕ) (xs : List (List ℕ)) (image : Image) (text listed content : List ℕ) → image ≡ packed_image size 0 (present xs) → text ≡ directory_text image.directory → listed ≡ packed_listed size (present xs)
+    → content ≡ flat_map (filled size) xs ++ (filled size text ++ flat_map word listed) → content ≡ packed_content size (present xs)
 unfolding packed_content
-packed_of size xs image text listed map1 content same is all holds has =
+content_as size xs image text listed content same is all has =
     let spelled : text ≡ directory_text (packed_directory size (present xs)) = is ∙ ap (λ (i : Image). directory_text i.directory) same in
-    let none : map1 ≡ map_text size (none_of image.head.blocks) = holds ∙ ap (λ (i : Image). map_text size i.free) same ∙ ap (λ (i : Image). map_text size (none_of i.head.blocks)) (sym same) in
-    let whole : content ≡ packed_content size (present xs) =
     has ∙ ap (λ t. flat_map (filled size) xs ++ (filled size t ++ flat_map word listed)) spelled
     ∙ ap (λ l. flat_map (filled size) xs ++ (filled size (directory_text (packed_directory size (present xs))) ++ flat_map word l)) all
-    ∙ ap (λ front. front ++ (filled size (directory_text (packed_directory size (present xs))) ++ flat_map word (packed_listed size (present xs)))) (sym (filled-present size xs)) in
+    ∙ ap (λ front. front ++ (filled size (directory_text (packed_directory size (present xs))) ++ flat_map word (packed_listed size (present xs)))) (sym (filled-present size xs))
+
+-- the file of its parts
+pub packed_of : (size : ℕ) (xs : List (List ℕ)) (image : Image) (map1 content : List ℕ) → image ≡ packed_image size 0 (present xs) → map1 ≡ map_text size image.free → content ≡ packed_content size (present xs)
+    → file_of image.head.block (superblock_text image.head) map1 content image.head.blocks ≡ packed_file size 0 (present xs)
+packed_of size xs image map1 content same holds whole =
+    let none : map1 ≡ map_text size (none_of image.head.blocks) = holds ∙ ap (λ (i : Image). map_text size i.free) same ∙ ap (λ (i : Image). map_text size (none_of i.head.blocks)) (sym same) in
     made_as size (present xs) image.head map1 content (ap (λ (i : Image). i.head) same) none whole
 
 -- ---- the parts as they are counted

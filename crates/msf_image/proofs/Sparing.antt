@@ -20,7 +20,7 @@ use Rattle.stream_directory.specs.Directory.{AreUsable, Spells, StreamBlocks, bl
 use Rattle.stream_directory.specs.Reading.{words_in}
 use Rattle.msf_image.specs.declared.image.Image.{Image}
 use Rattle.msf_image.specs.Reads.{IsWhole, active_map_blocks, block_bytes, bytes_of_blocks, directory_blocks, free_blocks_in, used_blocks}
-use Rattle.msf_image.specs.Relation.{IsApart, IsSpare, Reads, SameSource, SparesSource, directory_in, source_blocks, stream_in, used_in}
+use Rattle.msf_image.specs.Relation.{IsApart, IsSpare, Reads, SameSource, SparesSource, contents_in, directory_in, source_blocks, stream_in, used_in}
 use Rattle.msf_image.proofs.Directories.{free_inside, free_rising, map_inside}
 use Rattle.msf_image.proofs.Joining.{block_inside}
 use Rattle.msf_image.proofs.Listed.{listed_fit, usable_inside}
@@ -172,6 +172,18 @@ headed_reads file limit image streams r =
           ap (take s.block) (headed_keeps text file (block_offset s.block b) (omega (arith, far)));
       long = omega (arith, r.inside, length-with_head text file);
     })
+
+-- another superblock changes no stream's content
+pub headed_contents : (image : Image) (file head : List ℕ) → IsWhole image → length head ≡ 56 → contents_in (with_head file head) image ≡ contents_in file image
+headed_contents image file head whole len =
+    let s = image.head in
+    let P = IsSame s.block file (with_head file head) in
+    let least = (sized s.block whole.head.block).least in
+    let front = s.map_addr ∷ whole.blocks in
+    let same : (b : ℕ) → ¬ IsReserved s.block b → P b =
+    λ b free. ap (take s.block) (headed_keeps head file (block_offset s.block b) (omega (arith, len, mul-le 1 512 b s.block (behind_head s.block b free) least))) in
+    let all = all_each (λ b. ¬ IsReserved s.block b) P (used_blocks front image.directory) same (usable_unreserved s [] (used_blocks front image.directory) whole.usable) in
+    others_same s file (with_head file head) image.directory (all_behind P front (flat_map blocks_in image.directory) all)
 
 -- ---- spare blocks
 

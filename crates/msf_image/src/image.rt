@@ -1,7 +1,7 @@
-ghost use Rattle.std.specs.Prelude.{◌≡◌, ◌≤◌, ◌*◌, ◌-◌, ℕ, IsTrue, List, [], Option, None, length, slice_index_or, unwrap_or, IfOk, IsErrOf};
+ghost use Rattle.std.specs.Prelude.{◌≡◌, ◌≤◌, ◌*◌, ◌-◌, ℕ, IsTrue, List, [], Option, None, Some, length, slice_index_or, unwrap_or, IfOk, IsErrOf};
 ghost use Rattle.srv_edge.specs.Count.{HasCause};
 ghost use Rattle.srv_edge.specs.Reading.{OnlyReads};
-ghost use Rattle.stream_directory.specs.Directory.{stream_at};
+ghost use Rattle.stream_directory.specs.Directory.{StreamBlocks, stream_at};
 ghost use Rattle.msf_image.specs.declared.fault.DamageKind.{DamageKind};
 ghost use Rattle.msf_image.specs.Reads.{HasBlocks, IsWhole, content_of};
 ghost use Rattle.msf_image.specs.Relation.{Reads};
@@ -41,6 +41,10 @@ impl Image {
         ensures stream { (limit : ℕ) (streams : List (Option (List ℕ))) → IsTrue D.tells
             → 1 ≤ stream → Reads (D.seen device.old) limit self.now streams → IfOk result
             (λ bytes. bytes.items ≡ unwrap_or (slice_index_or streams (stream - 1) None) []) }
+        // Whatever the device tells, it has as many bytes as the directory says.
+        ensures size { (s : StreamBlocks) → 1 ≤ stream
+            → stream_at self.now.directory stream ≡ Some s
+            → IfOk result (λ bytes. length bytes.items ≡ s.size) }
         ensures no_damage { (kind : DamageKind) (place : ℕ)
             → ¬ IsErrOf result (OpenFault.Damage kind place) }
         ensures disk_fault { HasCause (IsErrOf result OpenFault.DiskFault)

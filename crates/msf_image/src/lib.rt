@@ -16,7 +16,9 @@ pub use crate::laws::{
     torn_write_spares,
 };
 pub use crate::open::open_image;
-pub use crate::packed::{NewImage, is_packable, new_file, new_image, put_block};
+pub use crate::packed::{
+    NewImage, given_before, given_block, is_packable, new_file, new_image, put_block,
+};
 
 #[cfg(test)]
 mod open_tests;

@@ -9,7 +9,7 @@ ghost use Rattle.free_page_maps.specs.MapText.{map_text};
 ghost use Rattle.stream_directory.specs.Directory.{absent_size, word};
 ghost use Rattle.msf_image.specs.Reads.{IsWhole};
 ghost use Rattle.msf_image.specs.Relation.{Reads};
-ghost use Rattle.msf_image.specs.Packed.{IsPackable, IsSmall, block_of, file_block, file_of, filled, given_block, given_before, given_from, none_of, packed_file, packed_directory, packed_image, packed_listed, packed_map_addr, packed_super, present, stream_blocks, stream_bytes};
+ghost use Rattle.msf_image.specs.Packed.{IsPackable, IsSmall, block_of, file_block, file_of, filled, given_block, given_before, given_from, none_of, packed_content, packed_file, packed_directory, packed_image, packed_listed, packed_map_addr, packed_super, present, stream_blocks, stream_bytes};
 
 use crate::image::Image;
 use free_page_maps::FreeMap;
@@ -102,29 +102,49 @@ fn stream_blocks(block: u32, streams: &[Text]) -> u64
     sum
 }
 
-/// What a packed file reads as, and the blocks in which its directory lies.
+/// What a packed file reads as, and what its given blocks hold in their order.
 #[derive(Drop)]
 pub struct NewImage {
     pub image: Image,
-    pub listed: Vec<u32>,
+    pub content: Vec<u8>,
 }
 
-/// The image of the packed file of these streams, whose number without a known meaning is 0. It
-/// takes memory for the directory and the map alone.
+/// The image of the packed file of these streams, whose number without a known meaning is 0, and
+/// what its blocks hold. It takes memory for all streams.
 pub fn new_image(alloc: Global, block: u32, streams: &[Text]) -> Result<NewImage, AllocError>
     requires { IsPackable block (present streams.now) }
     ensures image { IfOk result (λ new. new.image ≡ packed_image block 0 (present streams.now)) }
-    ensures listed { IfOk result (λ new. new.listed.items
-        ≡ packed_listed block (present streams.now)) }
+    ensures content { IfOk result (λ new. new.content.items
+        ≡ packed_content block (present streams.now)) }
     ensures whole { IfOk result (λ new. IsWhole new.image) }
 {
-    lay_image(alloc, block, streams)
+    let laid = lay_image(alloc, block, streams)?;
+    let text = write_directory(alloc, &laid.image.directory)?;
+    let content = content_of(
+        alloc,
+        block,
+        laid.image.head.blocks,
+        streams,
+        &text,
+        &laid.listed,
+    )?;
+    Ok(NewImage {
+        image: laid.image,
+        content,
+    })
 }
 
-fn lay_image(alloc: Global, block: u32, streams: &[Text]) -> Result<NewImage, AllocError>
+// What a packed file reads as, and the blocks in which its directory lies.
+#[derive(Drop)]
+struct Laid {
+    image: Image,
+    listed: Vec<u32>,
+}
+
+fn lay_image(alloc: Global, block: u32, streams: &[Text]) -> Result<Laid, AllocError>
     requires { IsPackable block (present streams.now) }
-    ensures image { IfOk result (λ new. new.image ≡ packed_image block 0 (present streams.now)) }
-    ensures listed { IfOk result (λ new. new.listed.items
+    ensures image { IfOk result (λ laid. laid.image ≡ packed_image block 0 (present streams.now)) }
+    ensures listed { IfOk result (λ laid. laid.listed.items
         ≡ packed_listed block (present streams.now)) }
 {
     let kept = stream_blocks(block, streams) as u32;
@@ -142,7 +162,7 @@ fn lay_image(alloc: Global, block: u32, streams: &[Text]) -> Result<NewImage, Al
     let directory = directory_of(alloc, block, streams)?;
     let listed = given_from(alloc, block, kept, count)?;
     let free = none_free(alloc, block, head.blocks)?;
-    Ok(NewImage {
+    Ok(Laid {
         image: Image {
             head,
             directory,
@@ -157,18 +177,9 @@ fn lay_file(alloc: Global, block: u32, streams: &[Text]) -> Result<Vec<u8>, Allo
     requires { IsPackable block (present streams.now) }
     ensures { IfOk result (λ file. file.items ≡ packed_file block 0 (present streams.now)) }
 {
-    let new = lay_image(alloc, block, streams)?;
-    let text = write_directory(alloc, &new.image.directory)?;
-    let content = content_of(
-        alloc,
-        block,
-        new.image.head.blocks,
-        streams,
-        &text,
-        &new.listed,
-    )?;
+    let new = new_image(alloc, block, streams)?;
     let map = new.image.free.scatter(alloc, block)?;
-    file_of(alloc, &new.image.head, &map, &content)
+    file_of(alloc, &new.image.head, &map, &new.content)
 }
 
 // The directory: each stream with the blocks that come next.
@@ -201,9 +212,9 @@ fn given_from(alloc: Global, block: u32, first: u32, count: u32) -> Result<Vec<u
     Ok(blocks)
 }
 
-// The block of a place among those that are given.
+/// The block of a place among those that are given.
 #[tactic(auto, unfolding(crate::specs::Packed::given_block))]
-fn given_block(block: u32, k: u32) -> u32
+pub fn given_block(block: u32, k: u32) -> u32
     requires size { IsBlockSize block }
     requires few { k < 2 ^ 30 }
     ensures { result ≡ given_block block k }
@@ -304,9 +315,9 @@ fn put_file_block(
     }
 }
 
-// How many given blocks stand before one.
+/// How many given blocks stand before one.
 #[tactic(auto, unfolding(crate::specs::Packed::given_before))]
-fn given_before(block: u32, b: u32) -> u32
+pub fn given_before(block: u32, b: u32) -> u32
     requires size { IsBlockSize block }
     requires least { 3 ≤ b }
     ensures { result ≡ given_before block b }

@@ -11,13 +11,13 @@ fn made(alloc: Global, block: u32, streams: &[Text]) -> Result<Vec<u8>, Fail> {
     Ok(new_file(alloc, block, streams)?)
 }
 
-// The block map of the packed file of these streams, and the blocks that it lists.
-fn listed_of(alloc: Global, block: u32, streams: &[Text]) -> Result<(u32, Vec<u32>), Fail> {
+// The block map of the packed file of these streams, and what its given blocks hold.
+fn content_of(alloc: Global, block: u32, streams: &[Text]) -> Result<(u32, Vec<u8>), Fail> {
     if !is_packable(block, streams) {
         return Err("a packed file can hold these streams".into());
     }
     let new = new_image(alloc, block, streams)?;
-    Ok((new.image.head.map_addr, new.listed))
+    Ok((new.image.head.map_addr, new.content))
 }
 
 // A stream of a file, which is opened anew.
@@ -76,9 +76,11 @@ fn one_small_stream(rt: HostRuntime) -> Result<(), Fail> {
         [1, 2, 3].as_slice()
     );
     assert_eq!(rt; blocks_of(alloc, &file, 1)?.as_slice(), [3].as_slice());
-    let (map_addr, listed) = listed_of(alloc, 512, &two_streams(alloc)?)?;
+    let (map_addr, content) = content_of(alloc, 512, &two_streams(alloc)?)?;
     assert_eq!(rt; map_addr, 5);
-    assert_eq!(rt; listed.as_slice(), [4].as_slice());
+    assert_eq!(rt; content.get(..4), Some([1, 2, 3, 0].as_slice()));
+    assert_eq!(rt; content.get(512..516), Some([2, 0, 0, 0].as_slice()));
+    assert_eq!(rt; content.get(1024..), Some([4, 0, 0, 0].as_slice()));
     Ok(())
 }
 

@@ -1,0 +1,5 @@
+pub mod Runs
+pub mod Steps
+pub mod Storing
+pub mod Changing
+pub mod Creating

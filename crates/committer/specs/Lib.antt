@@ -1,0 +1,5 @@
+pub mod Change
+pub mod Stored
+pub mod Writing
+pub mod Left
+pub mod Fault
