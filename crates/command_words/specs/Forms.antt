@@ -1,5 +1,5 @@
 -- The forms of a command line.
-use Rattle.std.specs.Prelude.{◌≡◌, ◌⊎◌, ◌<◌, ⊤, length, List, [], ◌∷◌, Option, Some, None, Result, MatchResult, if◌then◌else◌, option_and_then, codes}
+use Rattle.std.specs.Prelude.{◌≡◌, ◌⊎◌, ◌<◌, ⊤, length, List, [], ◌∷◌, Option, Some, None, Result, MatchResult, if◌then◌else◌, option_and_then, option_map, codes}
 use Rattle.std.specs.Str.{bytes_eq}
 use Rattle.command_words.specs.declared.plan.Plan.{Plan}
 use Rattle.command_words.specs.declared.plan.Plan.TheVariants as plan
@@ -25,19 +25,24 @@ session_by (text ∷ texts) = None
 abbrev pub session_plan : Line → Option Plan
 session_plan line = session_by line.positionals
 
--- `check PATH`
-abbrev pub check_by : Option Text → Option Plan
-check_by None = None
-check_by (Some path) = Some (plan.Check path)
+-- the one path of a line
+abbrev pub only_positional : Line → Option Text
+only_positional line = only line.positionals
 
+-- `check PATH`
 abbrev pub check_plan : Line → Option Plan
-check_plan line = check_by (only line.positionals)
+check_plan line = option_map plan.Check (only_positional line)
+
+-- `dump PATH`
+abbrev pub dump_plan : Line → Option Plan
+dump_plan line = option_map plan.Dump (only_positional line)
 
 -- the plan of a command and the words behind it
 abbrev pub form_by : Text → List Text → Option Plan
 form_by command words =
     if bytes_eq command (codes "session") then option_and_then session_plan (line_of [] words)
-    else (if bytes_eq command (codes "check") then option_and_then check_plan (line_of [] words) else None)
+    else (if bytes_eq command (codes "check") then option_and_then check_plan (line_of [] words)
+    else (if bytes_eq command (codes "dump") then option_and_then dump_plan (line_of [] words) else None))
 
 -- the plan that words stand for
 abbrev pub form_of : List Text → Option Plan
@@ -48,8 +53,10 @@ form_of (command ∷ words) = form_by command words
 abbrev pub IsPlan : Plan → Type 0
 IsPlan plan.Session = ⊤
 IsPlan (plan.Check path) = 0 < length path
+IsPlan (plan.Dump path) = 0 < length path
 
 -- words that stand for a plan. Behind two dashes each path may stand.
 abbrev pub words_for : Plan → List Text
 words_for plan.Session = codes "session" ∷ []
 words_for (plan.Check path) = codes "check" ∷ codes "--" ∷ path ∷ []
+words_for (plan.Dump path) = codes "dump" ∷ codes "--" ∷ path ∷ []

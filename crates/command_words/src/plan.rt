@@ -1,7 +1,7 @@
 ghost use Rattle.std.specs.Prelude.{◌≡◌, IfOk, [], map, option_and_then};
 ghost use Rattle.std.specs.List.{AllByRecursion};
 ghost use Rattle.std.specs.Str.{IsUtf8};
-ghost use Rattle.command_words.specs.Forms.{Answers, check_plan, form_by, form_of, session_plan};
+ghost use Rattle.command_words.specs.Forms.{Answers, check_plan, dump_plan, form_by, form_of, only_positional, session_plan};
 ghost use Rattle.command_words.specs.Lines.{line_of};
 ghost use Rattle.command_words.specs.declared.plan.Usage.TheVariants.{OutOfMemory};
 
@@ -14,8 +14,10 @@ use std::alloc::{AllocError, Global};
 pub enum Plan {
     /// Serve standard input over empty tables.
     Session,
-    /// Read a file as its container, and print what it reads as.
+    /// Read the tables of a file, and print its two lines or its first damage.
     Check { path: Word },
+    /// Read the tables of a file, and print all of them, or its first damage.
+    Dump { path: Word },
 }
 
 /// Why words have no plan.
@@ -64,6 +66,7 @@ fn plan_by<'a>(alloc: Global, command: &str, words: &'a [&'a str]) -> Result<Pla
     match command {
         "session" => session(alloc, words),
         "check" => check(alloc, words),
+        "dump" => dump(alloc, words),
         _ => Err(Usage::NotAForm),
     }
 }
@@ -85,10 +88,28 @@ fn check<'a>(alloc: Global, words: &'a [&'a str]) -> Result<Plan, Usage>
     ensures { Answers (option_and_then check_plan (line_of [] (map (λ w. w.now) words.now)))
         result }
 {
+    let path = only_path(alloc, words)?;
+    Ok(Plan::Check { path })
+}
+
+fn dump<'a>(alloc: Global, words: &'a [&'a str]) -> Result<Plan, Usage>
+    requires { AllByRecursion IsUtf8 (map (λ w. w.now) words.now) }
+    ensures { Answers (option_and_then dump_plan (line_of [] (map (λ w. w.now) words.now)))
+        result }
+{
+    let path = only_path(alloc, words)?;
+    Ok(Plan::Dump { path })
+}
+
+// The one positional of words without options.
+fn only_path<'a>(alloc: Global, words: &'a [&'a str]) -> Result<Word, Usage>
+    requires { AllByRecursion IsUtf8 (map (λ w. w.now) words.now) }
+    ensures { Answers (option_and_then only_positional
+        (line_of [] (map (λ w. w.now) words.now))) result }
+{
     let matches = read(alloc, &[], words)?;
     let Some([path]) = matches.get_strs(POSITIONAL) else {
         return Err(Usage::NotAForm);
     };
-    let path = Word::new(String::from_str(alloc, path)?);
-    Ok(Plan::Check { path })
+    Ok(Word::new(String::from_str(alloc, path)?))
 }

@@ -21,6 +21,7 @@ fn asked(alloc: Global, words: &[Word]) -> Result<String, Fail> {
     match plan_of(alloc, words) {
         Ok(Plan::Session) => Ok(String::from_str(alloc, "session")?),
         Ok(Plan::Check { path }) => Ok(format!(in alloc; "check {}", path.as_str())?),
+        Ok(Plan::Dump { path }) => Ok(format!(in alloc; "dump {}", path.as_str())?),
         Err(Usage::NotAForm) => Ok(String::from_str(alloc, "")?),
         Err(Usage::OutOfMemory) => Ok(String::from_str(alloc, "out of memory")?),
     }
@@ -53,6 +54,11 @@ fn command_lines(rt: HostRuntime) -> Result<(), Fail> {
         ("check /a/b.pdb", "check /a/b.pdb"),
         ("check é", "check é"),
         ("check \u{2212}x", "check \u{2212}x"),
+        ("dump P", "dump P"),
+        ("dump -", "dump -"),
+        ("dump -- -P", "dump -P"),
+        ("dump P=Q --", "dump P=Q"),
+        ("dump check", "dump check"),
     ] {
         let words = words_of(alloc, line)?;
         assert_eq!(rt; asked(alloc, &words)?.as_str(), want, "{line}");
@@ -125,7 +131,14 @@ fn command_lines(rt: HostRuntime) -> Result<(), Fail> {
         "check=P",
         "--check P",
         "-- check P",
-        "dump P",
+        "dump",
+        "dump ",
+        "dump P Q",
+        "dump -P",
+        "dump --help",
+        "dump --block 512 P",
+        "Dump P",
+        "dumps P",
         "init P",
         "gen 1",
         "serve P --listen S --sessions 1",

@@ -5,7 +5,7 @@ use Rattle.turnstile.specs.declared.history.Basis.{Basis}
 use Rattle.call_journal.specs.declared.deed.Deed.TheVariants.{Began, Ended}
 use Rattle.call_journal.specs.Words.{deed_of}
 use Rattle.table_model.specs.Cut.{Cut}
-use Rattle.table_model.specs.Tables.{Tables}
+pub use Rattle.table_model.specs.Extends.{StartsWith, Extends}
 use Rattle.core_model.specs.History.{after, age_of, opened_tables}
 
 -- the cut that was opened
@@ -38,13 +38,3 @@ pub record BeganAt (b : Basis) (entries : List Entry) (c : Cut) : Type 0 where
 -- that of a commit, while none behind it is.
 abbrev pub IsAllowed : Basis → List Entry → Cut → Type 0
 IsAllowed b entries c = ((c ≡ opened_cut b) × AcknowledgesNone entries) ⊎ BeganAt b entries c
-
--- The long list begins with the short one.
-abbrev pub StartsWith : List (List ℕ) → List (List ℕ) → Type 0
-StartsWith short long = (more : List (List ℕ)) × (long ≡ short ++ more)
-
--- tables that hold what others hold, at the same indices and offsets, and maybe more
-pub record Extends (short long : Tables) : Type 0 where
-  pub types : StartsWith short.types.records long.types.records
-  pub items : StartsWith short.items.records long.items.records
-  pub names : StartsWith short.names.names long.names.names

@@ -1,3 +1,3 @@
 pub mod Run
 pub mod Session
-pub mod Check
+pub mod Printed

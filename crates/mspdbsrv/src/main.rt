@@ -1,8 +1,6 @@
 //! A server through which the compilers of one build write type records and names.
 #![tactic(auto)]
 
-ghost use Rattle.std.specs.Prelude.{◌≡◌, IfOk, IsSome};
-
 mod commands;
 mod run;
 mod status;
@@ -37,7 +35,7 @@ fn words_of<R: Env + Alloc<A = Global>>(rt: &R) -> Result<Vec<Word>, Status> {
 // The file that a plan names, or one that fails at every call, where it names none.
 fn device_of(rt: &HostRuntime, plan: &Plan) -> Result<FileDevice<File>, Status> {
     match plan {
-        Plan::Check { path } => open(rt, path.as_str()),
+        Plan::Check { path } | Plan::Dump { path } => open(rt, path.as_str()),
         Plan::Session => Ok(FileDevice::absent()),
     }
 }
@@ -57,17 +55,11 @@ fn open(rt: &HostRuntime, path: &str) -> Result<FileDevice<File>, Status> {
     }
 }
 
-// The keys by which a session finds names. Where the system gives no random bytes, that is a failed
-// read. No other command asks for any.
-fn keys_of(rt: &HostRuntime, plan: &Plan) -> Result<Option<RandomState>, Status>
-    ensures { IfOk result (λ keys. plan.now ≡ Plan.Session → IsSome keys) }
-{
-    match plan {
-        Plan::Session => match RandomState::new(rt) {
-            Ok(keys) => Ok(Some(keys)),
-            Err(_) => Err(Status::ReadFault),
-        },
-        Plan::Check { .. } => Ok(None),
+// The keys by which names are found. Where the system gives no random bytes, that is a failed read.
+fn keys_of(rt: &HostRuntime) -> Result<RandomState, Status> {
+    match RandomState::new(rt) {
+        Ok(keys) => Ok(keys),
+        Err(_) => Err(Status::ReadFault),
     }
 }
 
@@ -78,7 +70,7 @@ fn run_words(rt: &HostRuntime, words: &[Word]) -> Result<Status, Status> {
         Err(Usage::NotAForm) => return Err(Status::Usage),
         Err(Usage::OutOfMemory) => return Err(Status::OutOfMemory),
     };
-    let keys = keys_of(rt, &plan)?;
+    let keys = keys_of(rt)?;
     let device = device_of(rt, &plan)?;
     let mut source = StdIn::new(rt.stdin());
     let mut sink = StdOut::new(rt.stdout());

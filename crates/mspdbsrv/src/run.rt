@@ -1,13 +1,13 @@
-ghost use Rattle.std.specs.Prelude.{◌≡◌, ◌≢◌, ◌⊎◌, ℕ, List, None, Some, IsSome};
+ghost use Rattle.std.specs.Prelude.{◌≡◌, ◌≢◌, ◌⊎◌, ℕ, List, None, Some};
 ghost use Rattle.command_words.specs.Forms.{form_of};
 ghost use Rattle.srv_edge.specs.Count.{HasCause};
 ghost use Rattle.srv_edge.specs.Reading.{OnlyReads};
-ghost use Rattle.mspdbsrv.specs.Check.{CompletesCheck, IsCheck};
+ghost use Rattle.mspdbsrv.specs.Printed.{CompletesPrinting, PrintsFile};
 ghost use Rattle.mspdbsrv.specs.Run.{IsEarly, IsUnread, IsUnsent};
 ghost use Rattle.mspdbsrv.specs.Session.{CompletesSession, RunsSession};
 
-use crate::commands::check::check;
 use crate::commands::session::session;
+use crate::commands::show::{Detail, show};
 use crate::status::Status;
 use command_words::{Plan, Usage, Word, plan_of};
 use srv_edge::{Device, Sink, Source};
@@ -15,18 +15,16 @@ use std::alloc::Global;
 use std::hash::RandomState;
 
 /// Does what the words ask for, and hands the device back. `session` makes its tables and its
-/// buffers before it reads, and does not touch the device; `check` reads the device alone, and
-/// writes nothing to it. The keys are those by which a session finds names in memory; nothing else
-/// needs them.
+/// buffers before it reads, and does not touch the device; `check` and `dump` read the device alone,
+/// and write nothing to it. The keys are those by which names are found in memory.
 pub fn run<S: Source, K: Sink, D: Device>(
     alloc: Global,
-    keys: Option<RandomState>,
+    keys: RandomState,
     words: &[Word],
     source: &mut S,
     sink: &mut K,
-    mut device: D,
+    device: D,
 ) -> (Status, D)
-    requires { form_of words.now ≡ Some Plan.Session → IsSome keys }
     // The words are no form: that yields to want of memory alone.
     ensures usage { result.0 ≡ Status.Usage → form_of words.now ≡ None }
     ensures no_form { form_of words.now ≡ None
@@ -36,14 +34,17 @@ pub fn run<S: Source, K: Sink, D: Device>(
     ensures session { form_of words.now ≡ Some Plan.Session
         → RunsSession S.Source K.Sink source.old source.new sink.old sink.new result.0 }
 
-    // In `check` the line went of what the file reads as, or of its first damage.
+    // In `check` the two lines went of the commit that the file holds, or that of its first damage.
     ensures check { (path : List ℕ) → form_of words.now ≡ Some (Plan.Check path)
-        → IsCheck D.Device K.Sink device sink.old sink.new result.0 }
+        → PrintsFile D.Device K.Sink Detail.Lines device sink.old sink.new result.0 }
+    // In `dump` all of that commit went, or the line of the file's first damage.
+    ensures dump { (path : List ℕ) → form_of words.now ≡ Some (Plan.Dump path)
+        → PrintsFile D.Device K.Sink Detail.All device sink.old sink.new result.0 }
     ensures nothing_read { IsEarly result.0 → IsUnread S.Source source.old source.new }
     ensures nothing_given { IsEarly result.0 → IsUnsent K.Sink sink.old sink.new }
     ensures source_untouched { form_of words.now ≢ Some Plan.Session → source.new ≡ source.old }
     ensures device_untouched { ((path : List ℕ) → form_of words.now ≢ Some (Plan.Check path))
-        → result.1 ≡ device }
+        → ((path : List ℕ) → form_of words.now ≢ Some (Plan.Dump path)) → result.1 ≡ device }
     ensures reads { HasCause (result.0 ≡ Status.ReadFault)
         (S.faults source.old) (S.faults source.new) }
     ensures writes { HasCause (result.0 ≡ Status.WriteFault)
@@ -54,21 +55,18 @@ pub fn run<S: Source, K: Sink, D: Device>(
     // start.
     ensures only_reads { OnlyReads D.Device device result.1 }
 
-    // Where nothing fails, the input alone says how a session ends, and the file how a check ends.
+    // Where nothing fails, the input alone says how a session ends, and the file how the others end.
     ensures session_completes { form_of words.now ≡ Some Plan.Session
         → CompletesSession S.Source K.Sink source.old source.new sink.old sink.new result.0 }
     ensures check_completes { (path : List ℕ) → form_of words.now ≡ Some (Plan.Check path)
-        → CompletesCheck D.Device K.Sink device result.1 sink.old sink.new result.0 }
+        → CompletesPrinting D.Device K.Sink device result.1 sink.old sink.new result.0 }
+    ensures dump_completes { (path : List ℕ) → form_of words.now ≡ Some (Plan.Dump path)
+        → CompletesPrinting D.Device K.Sink device result.1 sink.old sink.new result.0 }
 {
     match plan_of(alloc, words) {
-        Ok(Plan::Session) => {
-            let Some(keys) = keys else { unreachable!() };
-            (session(alloc, keys, source, sink), device)
-        }
-        Ok(Plan::Check { .. }) => {
-            let status = check(alloc, sink, &mut device);
-            (status, device)
-        }
+        Ok(Plan::Session) => (session(alloc, keys, source, sink), device),
+        Ok(Plan::Check { .. }) => show(alloc, keys, Detail::Lines, sink, device),
+        Ok(Plan::Dump { .. }) => show(alloc, keys, Detail::All, sink, device),
         Err(Usage::NotAForm) => (Status::Usage, device),
         Err(Usage::OutOfMemory) => (Status::OutOfMemory, device),
     }

@@ -13,5 +13,5 @@ mod write;
 
 pub use crate::fault::{NameFault, NamesFault};
 pub use crate::laws::{buckets_are_counted, written_names_are_found, written_names_are_read};
-pub use crate::read::read_names;
+pub use crate::read::{HEADER_BYTES, read_names};
 pub use crate::table::NamesTable;

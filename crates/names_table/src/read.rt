@@ -1,7 +1,7 @@
 ghost use Rattle.std.specs.Prelude.{◌≡◌, ◌≤◌, ◌+◌, ◌-◌, ◌⊎◌, ◌++◌, [], Err, None, Ok, Some, drop, get_or, length, IfErr, IfOk, OnOk};
 ghost use Rattle.std.specs.Option.{option_map};
 ghost use Rattle.srv_edge.specs.declared.limit.TheConstants.{MOST_NAME_BYTES};
-ghost use Rattle.names_table.specs.Names.{Names};
+ghost use Rattle.names_table.specs.Names.{IsNamesTable, Names};
 ghost use Rattle.names_table.specs.Reading.{AreBeforeNul, first_long, header_fault, reading, size_in, text_fault, version_in};
 ghost use Rattle.names_table.specs.Strings.{names_cut};
 ghost use Rattle.names_table.specs.declared.fault.NamesFault.TheVariants as fault;
@@ -18,7 +18,7 @@ use std::hash::RandomState;
 pub(crate) const SIGNATURE: u32 = 0xEFFE_EFFE;
 
 /// The signature, the version of the hashes, and how many bytes the strings have.
-pub(crate) const HEADER_BYTES: u32 = 12;
+pub const HEADER_BYTES: u32 = 12;
 
 /// The table that the stream `/names` holds, or the first test that it fails. What follows the
 /// strings is not judged.
@@ -28,8 +28,10 @@ pub fn read_names(
     stream: &[u8],
     limits: Limits,
 ) -> Result<NamesTable, NamesFault>
-    ensures { (result ≡ reading limits.name_bytes stream.now)
+    ensures exact { (result ≡ reading limits.name_bytes stream.now)
         ⊎ (result ≡ Err fault.OutOfMemory) }
+    ensures kept { IfOk result IsNamesTable }
+    ensures limit { IfOk result (λ names. names.max_bytes ≡ limits.name_bytes) }
 {
     let (version, size) = read_header(stream, limits.name_bytes)?;
     let mut table = NamesTable::new(alloc, keys, limits, version)?;

@@ -1,4 +1,4 @@
-ghost use Rattle.std.specs.Prelude.{◌≡◌, ◌≤◌, ◌^◌, ◌↔◌, ◌⊎◌, ◌++◌, [], ◌∷◌, Err, None, Ok, Some, length, IfOk, IfSome, IsTrue, OnErr, OnOk};
+ghost use Rattle.std.specs.Prelude.{◌≡◌, ◌≤◌, ◌^◌, ◌↔◌, ◌⊎◌, ◌++◌, [], ◌∷◌, Err, None, Ok, Some, length, slice_get, IfOk, IfSome, IsTrue, OnErr, OnOk};
 ghost use Rattle.std.specs.Option.{option_copied};
 ghost use Rattle.srv_edge.specs.declared.limit.TheConstants.{NAME_BYTES};
 ghost use Rattle.names_table.specs.Names.{Adds, HasRoomFor, IsName, IsNamesTable, Names, bytes_of, name_at, offset_of};
@@ -130,6 +130,13 @@ impl NamesTable {
             return Some(&[]);
         }
         self.list.get(offset)
+    }
+
+    /// The name at a position, counted from 0.
+    pub fn name(&self, position: u32) -> Option<&[u8]>
+        ensures { option_copied result ≡ slice_get self.now.names position }
+    {
+        self.list.name(position)
     }
 
     /// The text of the stream `/names` with the names of this table.

@@ -30,8 +30,8 @@ pub fn damage_text(alloc: Global, kind: DamageKind, place: u64) -> Result<Vec<u8
     Ok(line)
 }
 
-// Puts a label and a decimal number behind a line.
-fn put(line: &mut Vec<u8>, label: &[u8], n: u64) -> Result<(), AllocError>
+/// Puts a label and a decimal number behind a line.
+pub(crate) fn put(line: &mut Vec<u8>, label: &[u8], n: u64) -> Result<(), AllocError>
     ensures { OnOk result (line.new.items ≡ line.old.items ++ label.now ++ decimal n) }
 {
     let mut digits = Buffer::new();

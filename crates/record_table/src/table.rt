@@ -1,4 +1,4 @@
-ghost use Rattle.std.specs.Prelude.{◌≡◌, ◌≤◌, ◌<◌, ◌+◌, ◌^◌, ◌↔◌, ◌++◌, [], ◌∷◌, length, IfOk, IfSome, IsTrue, OnErr, OnOk};
+ghost use Rattle.std.specs.Prelude.{◌≡◌, ◌≤◌, ◌<◌, ◌+◌, ◌^◌, ◌↔◌, ◌++◌, [], ◌∷◌, length, All, IfOk, IfSome, IsTrue, OnErr, OnOk};
 ghost use Rattle.std.specs.Option.{option_copied};
 ghost use Rattle.record_table.specs.Buckets.{hashes_of, in_bucket};
 ghost use Rattle.record_table.specs.Table.{Adds, HasRoomFor, IsKept, IsRecord, appended, bytes_in, index_of, record_at};
@@ -51,6 +51,28 @@ impl RecordTable {
             max_bytes: limits.bytes,
             records: RecordList::new(alloc),
             chains: Chains::new(alloc)?,
+        })
+    }
+
+    /// A table of these records, in their order, equal ones among them. Beside the list it takes
+    /// memory for the chains alone.
+    pub fn from_records(
+        alloc: Global,
+        limits: Limits,
+        records: RecordList,
+    ) -> Result<RecordTable, AllocError>
+        requires all { All IsRecord records }
+        requires few { length records ≤ limits.records }
+        requires short { length (joined records) ≤ limits.bytes }
+        ensures { IfOk result (λ t. t ≡ record
+            { max_records = limits.records; max_bytes = limits.bytes; records = records }) }
+    {
+        let chains = chains_of(alloc, &records)?;
+        Ok(RecordTable {
+            max_records: limits.records,
+            max_bytes: limits.bytes,
+            records,
+            chains,
         })
     }
 
@@ -150,6 +172,22 @@ impl RecordTable {
     {
         self.records.joined().len() as u32
     }
+}
+
+// Chains of these records.
+fn chains_of(alloc: Global, records: &RecordList) -> Result<Chains, AllocError>
+    requires { length records.now ≤ 2 ^ 23 }
+    ensures { IfOk result (λ c. c.hashes ≡ hashes_of records.now) }
+{
+    let mut chains = Chains::new(alloc)?;
+    chains.reserve(records.len())?;
+    for number in 0..records.len() {
+        let Some(record) = records.get(number) else {
+            unreachable!()
+        };
+        chains.link(of_record(record));
+    }
+    Ok(chains)
 }
 
 // The record behind the others, and in its chain. All that grows does so before anything is

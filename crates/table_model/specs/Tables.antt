@@ -16,6 +16,7 @@ use Rattle.srv_edge.specs.declared.limit.TheConstants as limit
 use Rattle.srv_edge.specs.declared.space.TheConstants as space
 use Rattle.srv_edge.specs.Growth.{AnswersOrWants}
 use Rattle.srv_edge.specs.declared.failed.Limits.{Limits}
+use Rattle.table_model.specs.Bounds.{bounded_table, bounds_of}
 use Rattle.srv_edge.specs.declared.failed.Refusal.{Refusal}
 use Rattle.srv_edge.specs.declared.failed.Refusal.TheVariants.{Malformed, NotGiven, Full, OutOfMemory}
 
@@ -27,7 +28,7 @@ pub record Tables : Type 0 where
 
 -- a table of these records within limits
 abbrev pub table_within : Limits → List (List ℕ) → records.Table
-table_within limits list = record { max_records = limits.records; max_bytes = limits.bytes; records = list }
+table_within limits list = bounded_table (bounds_of limits) list
 
 -- a table of these names within limits, whose hashes have the first version
 abbrev pub names_within : Limits → List (List ℕ) → strings.Names

@@ -4,3 +4,4 @@ pub mod Joining
 pub mod HeaderTexts
 pub mod Streams
 pub mod WrittenStreams
+pub mod Growing

@@ -15,7 +15,7 @@ use Rattle.tpi_stream.specs.HeaderText.{header_in, header_text}
 use Rattle.tpi_stream.specs.Reading.{counted, damage_in, header_fault, header_of, reading, record_bytes_of, records_in}
 use Rattle.tpi_stream.specs.Stream.{IsHeader, IsStream}
 use Rattle.tpi_stream.proofs.HeaderTexts.{drop-header_text, header_read, header_spelled, length-header_text}
-use Rattle.tpi_stream.proofs.Joining.{joined_read, read_joined}
+use Rattle.tpi_stream.proofs.Joining.{AreIn, joined_read, read_joined}
 
 -- the records behind a header, where they are as many as it counts
 abbrev behind_header : List ℕ → Header → Result Records TpiFault
@@ -160,34 +160,57 @@ AreBytes-all bytes all i =
       | inr le ↦ subst (λ n. n < 256) (sym (get_or_past bytes i 0 le)) (lit< tt)
     ]
 
-pub spelled : (max_records max_bytes : ℕ) (stream : List ℕ) (r : Records) → AreBytes stream → reading max_records max_bytes stream ≡ Ok r → IsStream max_records max_bytes stream r
+-- what is known of a stream that was read
+pub record IsRead (max_records max_bytes : ℕ) (stream : List ℕ) (r : Records) : Type 0 where
+  pub long : 56 ≤ length stream
+  pub header : header_in stream ≡ r.header
+  pub passes : Passes r.header (length stream) max_records max_bytes
+  pub count : length r.list ≡ r.header.end - r.header.begin
+  pub found : AreIn (record_bytes_of r.header stream) r.list
+  pub bytes : length (joined r.list) ≡ r.header.record_bytes
+
+pub was_read : (max_records max_bytes : ℕ) (stream : List ℕ) (r : Records) → reading max_records max_bytes stream ≡ Ok r → IsRead max_records max_bytes stream r
 unfolding reading header_of
-spelled max_records max_bytes stream r fits is =
+was_read max_records max_bytes stream r is =
     let h = header_in stream in
     let one = bound_ok (header_of max_records max_bytes stream) (behind_header stream) r is in
     let head = header_parts _ _ h one.0 _ one.1 in
     let p = passed h (length stream) max_records max_bytes head.1 in
-    let long : 56 ≤ length stream = leb-true _ _ head.0 in
     let later : behind_header stream h ≡ Ok r = ap (behind_header stream) head.2 ∙ one.2 in
     let two = bound_ok (records_in (length (record_bytes_of h stream)) 56 (record_bytes_of h stream)) (counted h) r later in
     let list = two.0 in
     let last = counted_parts _ _ r _ two.2 in
     let found = read_joined 56 (record_bytes_of h stream) list two.1 in
     let len : length (record_bytes_of h stream) ≡ h.record_bytes = length-take-le h.record_bytes (drop 56 stream) (omega (arith, p.inside, length-drop 56 stream)) in
-    let joined_len : length (joined list) ≡ h.record_bytes = ap length found.all ∙ len in
-    let count : length list ≡ h.end - h.begin = eqb-true _ _ last.0 in
-    let made : IsStream max_records max_bytes stream (record { header = h; list = list }) = record {
-      header = header_is stream (length stream) max_records max_bytes fits p;
-      records = found.each;
-      count = omega (arith, count, p.begin, p.order);
-      bytes = sym joined_len;
-      few_records = omega (arith, count, p.few);
-      few_bytes = omega (arith, joined_len, p.short);
+    let made : IsRead max_records max_bytes stream (record { header = h; list = list }) =
+    record { long = leb-true _ _ head.0; header = refl; passes = p; count = eqb-true _ _ last.0; found = found; bytes = ap length found.all ∙ len } in
+    subst (IsRead max_records max_bytes stream) last.1 made
+
+-- its bytes behind the header are those of the records
+pub stands_behind : (max_records max_bytes : ℕ) (stream : List ℕ) (r : Records) → reading max_records max_bytes stream ≡ Ok r
+    → (56 + length (joined r.list) ≤ length stream) × (joined r.list ≡ take (length (joined r.list)) (drop 56 stream))
+stands_behind max_records max_bytes stream r is =
+    let w = was_read max_records max_bytes stream r is in
+    (omega (arith, w.bytes, w.passes.inside), w.found.all ∙ ap (λ n. take n (drop 56 stream)) (sym w.bytes))
+
+pub spelled : (max_records max_bytes : ℕ) (stream : List ℕ) (r : Records) → AreBytes stream → reading max_records max_bytes stream ≡ Ok r → IsStream max_records max_bytes stream r
+spelled max_records max_bytes stream r fits is =
+    let w = was_read max_records max_bytes stream r is in
+    let h = r.header in
+    let read : header_in stream ≡ h = w.header in
+    let p = w.passes in
+    record {
+      header = subst IsHeader read (header_is stream (length stream) max_records max_bytes fits (subst (λ x. Passes x (length stream) max_records max_bytes) (sym read) p));
+      records = w.found.each;
+      count = omega (arith, w.count, p.begin, p.order);
+      bytes = sym w.bytes;
+      few_records = omega (arith, w.count, p.few);
+      few_bytes = omega (arith, w.bytes, p.short);
       behind = drop h.record_bytes (drop 56 stream);
-      text = header_spelled stream fits long
-          ∙ ap (λ xs. header_text h ++ xs) (sym (take-append-drop h.record_bytes (drop 56 stream)) ∙ ap (λ xs. xs ++ drop h.record_bytes (drop 56 stream)) (sym found.all));
-    } in
-    subst (IsStream max_records max_bytes stream) last.1 made
+      text = header_spelled stream fits w.long
+          ∙ ap (λ x. header_text x ++ drop 56 stream) read
+          ∙ ap (λ xs. header_text h ++ xs) (sym (take-append-drop h.record_bytes (drop 56 stream)) ∙ ap (λ xs. xs ++ drop h.record_bytes (drop 56 stream)) (sym w.found.all));
+    }
 
 -- what a reader that is told so finds
 pub on_read : (max_records max_bytes : ℕ) (stream : List ℕ) (result : Result Records TpiFault) → AreBytes stream → Tells damage_in (λ r. r) result (reading max_records max_bytes stream)

@@ -108,9 +108,11 @@ impl<V: Historied> Turnstile<V> {
 }
 
 impl<V: Historied> Pass<V> {
-    /// Under this number its calls stand in the history.
+    /// Under this number its calls stand in the history. What it has seen is lawful, also where it
+    /// takes no turn.
     pub fn number(&self) -> u8
-        ensures { result ≡ self.now.number }
+        ensures number { result ≡ self.now.number }
+        ensures sound { IsSound V.law self.now }
     {
         self.number
     }

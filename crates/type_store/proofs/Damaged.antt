@@ -3,6 +3,7 @@ use Rattle.std.proofs.Common.{◌≡◌, ◌||◌, ℕ, Bool, true, false, if◌
 use Rattle.byteorder.specs.Endian.{little_bytes}
 use Rattle.msf_blocks.specs.Judging.{◌>>=◌, told_by}
 use Rattle.srv_edge.specs.declared.failed.Limits.{Limits}
+use Rattle.table_model.specs.Bounds.{bounds_of}
 use Rattle.leaf_grammar.specs.declared.grammar.Space.TheVariants.{Types, Items}
 use Rattle.msf_image.specs.declared.fault.DamageKind.TheVariants as kind
 use Rattle.info_stream.specs.Named.{behind_guid, named_streams, stream_named}
@@ -37,12 +38,12 @@ info_plain contents is =
 abbrev plain : ℕ → Records
 plain hash_stream = record { header = written_header (new_kept hash_stream) []; list = [] }
 
-types_plain : (limits : Limits) (contents : Contents) → content_at contents 2 ≡ Some (record_stream_text (new_kept 5) []) → is_apart contents [] 5 ≡ true → records_held limits contents Types [] ≡ Ok (plain 5)
-types_plain limits contents is apart = records_written limits contents Types [] (table_within limits []) (new_kept 5) (empty_kept limits) refl (new_can 5 (omega arith)) is apart
+types_plain : (limits : Limits) (contents : Contents) → content_at contents 2 ≡ Some (record_stream_text (new_kept 5) []) → is_apart contents [] 5 ≡ true → records_held (bounds_of limits) contents Types [] ≡ Ok (plain 5)
+types_plain limits contents is apart = records_written (bounds_of limits) contents Types [] (table_within limits []) (new_kept 5) (empty_kept limits) refl (new_can 5 (omega arith)) is apart
 
 items_plain : (limits : Limits) (contents : Contents) → content_at contents 4 ≡ Some (record_stream_text (new_kept 6) []) → is_apart contents (5 ∷ []) 6 ≡ true
-    → records_held limits contents Items (5 ∷ []) ≡ Ok (plain 6)
-items_plain limits contents is apart = records_written limits contents Items (5 ∷ []) (table_within limits []) (new_kept 6) (empty_kept limits) refl (new_can 6 (omega arith)) is apart
+    → records_held (bounds_of limits) contents Items (5 ∷ []) ≡ Ok (plain 6)
+items_plain limits contents is apart = records_written (bounds_of limits) contents Items (5 ∷ []) (table_within limits []) (new_kept 6) (empty_kept limits) refl (new_can 6 (omega arith)) is apart
 
 -- ---- the PDB stream
 
@@ -50,17 +51,17 @@ info_cut : info_in (changed 1 (take 27)) ≡ Err (damage_at kind.InfoShort 12)
 unfolding info_in stream_named named_streams behind_guid number new_info
 info_cut = refl
 
-pub info_damaged : (limits : Limits) → holding limits (changed 1 (take 27)) ≡ Err (damage_at kind.InfoShort 12)
+pub info_damaged : (limits : Limits) → holding (bounds_of limits) (changed 1 (take 27)) ≡ Err (damage_at kind.InfoShort 12)
 unfolding holding
 info_damaged limits = rw info_cut refl
 
 -- ---- types
 
-few_buckets : (limits : Limits) → records_held limits (changed 2 (replaced 28 (little_bytes 4 4095))) Types [] ≡ Err (damage_at kind.TypesHeader 28)
+few_buckets : (limits : Limits) → records_held (bounds_of limits) (changed 2 (replaced 28 (little_bytes 4 4095))) Types [] ≡ Err (damage_at kind.TypesHeader 28)
 unfolding records_held records.reading records.header_of records.header_fault header_in header_text record_stream_text index_offsets
 few_buckets limits = refl
 
-pub types_damaged : (limits : Limits) → holding limits (changed 2 (replaced 28 (little_bytes 4 4095))) ≡ Err (damage_at kind.TypesHeader 28)
+pub types_damaged : (limits : Limits) → holding (bounds_of limits) (changed 2 (replaced 28 (little_bytes 4 4095))) ≡ Err (damage_at kind.TypesHeader 28)
 unfolding holding
 types_damaged limits = rw (info_plain (changed 2 (replaced 28 (little_bytes 4 4095))) refl, few_buckets limits) refl
 
@@ -77,10 +78,10 @@ not_apart : is_apart same_hashes (5 ∷ []) 5 ≡ false
 unfolding is_apart
 not_apart = refl
 
-same_hash_stream : (limits : Limits) → records_held limits same_hashes Items (5 ∷ []) ≡ Err (damage_at kind.ItemsHash 20)
+same_hash_stream : (limits : Limits) → records_held (bounds_of limits) same_hashes Items (5 ∷ []) ≡ Err (damage_at kind.ItemsHash 20)
 unfolding records_held
 same_hash_stream limits =
-    let read = table_written limits (table_within limits []) (new_kept 5) (empty_kept limits) refl (new_can 5 (omega arith)) in
+    let read = table_written (bounds_of limits) (table_within limits []) (new_kept 5) (empty_kept limits) refl (new_can 5 (omega arith)) in
     ap (λ c. there (absent_damage Items) c >>= λ s. told_by (record_damage Items) (records.reading limits.records limits.bytes s) >>= λ (found : Records). with_hashes (is_apart same_hashes (5 ∷ []) found.header.hash_stream) Items found) same_text
     ∙ ap (λ r. told_by (record_damage Items) r >>= λ (found : Records). with_hashes (is_apart same_hashes (5 ∷ []) found.header.hash_stream) Items found) read
     ∙ ap (λ b. with_hashes b Items (plain 5)) not_apart
@@ -93,14 +94,14 @@ items_apart : (contents : Contents) → content_at contents 6 ≡ Some [] → is
 unfolding is_apart
 items_apart contents is = rw is refl
 
-pub items_damaged : (limits : Limits) → holding limits (changed 4 (replaced 20 (little_bytes 2 5))) ≡ Err (damage_at kind.ItemsHash 20)
+pub items_damaged : (limits : Limits) → holding (bounds_of limits) (changed 4 (replaced 20 (little_bytes 2 5))) ≡ Err (damage_at kind.ItemsHash 20)
 unfolding holding
 items_damaged limits = rw (info_plain same_hashes refl, types_plain limits same_hashes refl (types_apart same_hashes refl), same_hash_stream limits) refl
 
 -- ---- names
 
 -- the names' damage is the file's, where all else is as in a new file
-names_only : (limits : Limits) (change : List ℕ → List ℕ) (fault : NamesFault) → names.reading limits.name_bytes (change (names_text 1 [])) ≡ Err fault → holding limits (changed 7 change) ≡ Err (names_damage fault)
+names_only : (limits : Limits) (change : List ℕ → List ℕ) (fault : NamesFault) → names.reading limits.name_bytes (change (names_text 1 [])) ≡ Err fault → holding (bounds_of limits) (changed 7 change) ≡ Err (names_damage fault)
 unfolding holding names_held is_apart
 names_only limits change fault is =
     let c = changed 7 change in
@@ -121,8 +122,8 @@ too_many max_bytes = past_end (nat_lt max_bytes 18)
 size_past_end : (max_bytes : ℕ) → names.reading max_bytes (replaced 8 (little_bytes 4 18) (names_text 1 [])) ≡ Err (fault.Size 8)
 size_past_end max_bytes = rw (too_many max_bytes) refl
 
-pub names_damaged : (limits : Limits) → holding limits (changed 7 (replaced 0 (little_bytes 1 0))) ≡ Err (damage_at kind.NamesHeader 0)
+pub names_damaged : (limits : Limits) → holding (bounds_of limits) (changed 7 (replaced 0 (little_bytes 1 0))) ≡ Err (damage_at kind.NamesHeader 0)
 names_damaged limits = names_only limits (replaced 0 (little_bytes 1 0)) (fault.Header 0) (no_signature limits.name_bytes)
 
-pub size_damaged : (limits : Limits) → holding limits (changed 7 (replaced 8 (little_bytes 4 18))) ≡ Err (damage_at kind.NamesSize 8)
+pub size_damaged : (limits : Limits) → holding (bounds_of limits) (changed 7 (replaced 8 (little_bytes 4 18))) ≡ Err (damage_at kind.NamesSize 8)
 size_damaged limits = names_only limits (replaced 8 (little_bytes 4 18)) (fault.Size 8) (size_past_end limits.name_bytes)

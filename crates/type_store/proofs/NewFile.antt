@@ -1,6 +1,7 @@
 -- A new file is written for empty tables.
 use Rattle.std.proofs.Common.{◌≡◌, ◌≤◌, ℕ, List, [], Some, length, refl, ap, sym, arith, inl}
 use Rattle.srv_edge.specs.declared.failed.Limits.{Limits}
+use Rattle.table_model.specs.Bounds.{bounds_of}
 use Rattle.info_stream.specs.Text.{new_info, with_age}
 use Rattle.info_stream.proofs.Ages.{named-new_info}
 use Rattle.tpi_stream.specs.Hashes.{hash_values, index_offsets}
@@ -44,7 +45,7 @@ new_written guid signature limits = record {
 pub empty_kept : (limits : Limits) → IsKept (table_within limits [])
 empty_kept limits = record { all = grind arith; within = record { few = omega arith; short = omega arith }; most_records = limits.few_records; most_bytes = limits.few_bytes }
 
-pub empty_within : (limits : Limits) → AreWithin limits (empty_tables limits)
+pub empty_within : (limits : Limits) → AreWithin (bounds_of limits) (empty_tables limits)
 empty_within limits = record {
   types = empty_kept limits;
   items = empty_kept limits;

@@ -4,7 +4,7 @@ use Rattle.std.specs.List.{list_any}
 use Rattle.std.proofs.lemmas.Bool.{and_parts, eqb-false, not-true}
 use Rattle.msf_blocks.specs.Judging.{◌>>=◌, told_by}
 use Rattle.msf_blocks.proofs.Judging.{bound_ok, told_by_ok}
-use Rattle.srv_edge.specs.declared.failed.Limits.{Limits}
+use Rattle.table_model.specs.Bounds.{Bounds}
 use Rattle.leaf_grammar.specs.declared.grammar.Space.{Space}
 use Rattle.leaf_grammar.specs.declared.grammar.Space.TheVariants.{Types, Items}
 use Rattle.msf_image.specs.declared.fault.Damage.{Damage}
@@ -20,7 +20,7 @@ use Rattle.type_store.specs.Holds.{Contents, Held, content_apart, content_at, ho
 use Rattle.type_store.specs.Written.{CanKeep, HaveBytes, numbers_of}
 
 -- what each part of the judgement gave
-record Parts (limits : Limits) (contents : Contents) (held : Held) : Type 0 where
+pub record Parts (limits : Bounds) (contents : Contents) (held : Held) : Type 0 where
   pub info : info_in contents ≡ Ok (held.names_stream, held.age)
   pub types : records_held limits contents Types [] ≡ Ok held.types
   pub items : records_held limits contents Items (held.types.header.hash_stream ∷ []) ≡ Ok held.items
@@ -29,7 +29,7 @@ record Parts (limits : Limits) (contents : Contents) (held : Held) : Type 0 wher
 abbrev made : ℕ × ℕ → Records → Records → Names → Held
 made info types items table = record { age = info.1; types = types; items = items; names_stream = info.0; names = table }
 
-parts : (limits : Limits) (contents : Contents) (held : Held) → holding limits contents ≡ Ok held → Parts limits contents held
+pub parts : (limits : Bounds) (contents : Contents) (held : Held) → holding limits contents ≡ Ok held → Parts limits contents held
 unfolding holding
 parts limits contents held e =
     let i = bound_ok (info_in contents) (λ info. records_held limits contents Types [] >>= λ types. records_held limits contents Items (types.header.hash_stream ∷ []) >>= λ items.
@@ -54,7 +54,7 @@ hashes_ok true space x y e = (refl, cc)
 hashes_ok false space x y e = absurd cc
 
 -- the PDB stream names the stream of names
-info_found : (contents : Contents) (number age : ℕ) → info_in contents ≡ Ok (number, age) → (info : List ℕ) × (content_at contents 1 ≡ Some info) × (stream_named info (codes "/names") ≡ Ok number)
+pub info_found : (contents : Contents) (number age : ℕ) → info_in contents ≡ Ok (number, age) → (info : List ℕ) × (content_at contents 1 ≡ Some info) × (stream_named info (codes "/names") ≡ Ok number)
 unfolding info_in
 info_found contents number age e =
     let s = bound_ok (there (damage_at kind.InfoShort 0) (content_at contents 1)) (λ info. told_by info_damage (stream_named info (codes "/names")) >>= λ n. Ok (n, unwrap_or (age_in info) 0)) (number, age) e in
@@ -64,13 +64,13 @@ info_found contents number age e =
     (s.0, there_ok (damage_at kind.InfoShort 0) (content_at contents 1) s.0 s.1, told_by_ok info_damage (stream_named s.0 (codes "/names")) n.0 n.1 ∙ ap Ok same)
 
 -- records were read, and their hash stream stands apart
-record Found (limits : Limits) (contents : Contents) (space : Space) (others : List ℕ) (r : Records) : Type 0 where
+pub record Found (limits : Bounds) (contents : Contents) (space : Space) (others : List ℕ) (r : Records) : Type 0 where
   pub stream : List ℕ
   pub content : content_at contents (stream_of space) ≡ Some stream
   pub read : records.reading limits.records limits.bytes stream ≡ Ok r
   pub apart : is_apart contents others r.header.hash_stream ≡ true
 
-found : (limits : Limits) (contents : Contents) (space : Space) (others : List ℕ) (r : Records) → records_held limits contents space others ≡ Ok r → Found limits contents space others r
+pub found : (limits : Bounds) (contents : Contents) (space : Space) (others : List ℕ) (r : Records) → records_held limits contents space others ≡ Ok r → Found limits contents space others r
 unfolding records_held
 found limits contents space others r e =
     let s = bound_ok (there (absent_damage space) (content_at contents (stream_of space))) (λ s. told_by (record_damage space) (records.reading limits.records limits.bytes s)
@@ -88,7 +88,7 @@ apart_ok : (may : Bool) (content : Option (List ℕ)) (x : List ℕ) → cond ma
 apart_ok true content x e = refl
 apart_ok false content x e = absurd cc
 
-names_apart : (limits : Limits) (contents : Contents) (others : List ℕ) (i : ℕ) (table : Names) → names_held limits contents others i ≡ Ok table → is_apart contents others i ≡ true
+pub names_apart : (limits : Bounds) (contents : Contents) (others : List ℕ) (i : ℕ) (table : Names) → names_held limits contents others i ≡ Ok table → is_apart contents others i ≡ true
 unfolding names_held
 names_apart limits contents others i table e =
     let s = bound_ok (there (damage_at kind.NamesStream i) (content_apart contents others i)) (λ s. told_by names_damage (names.reading limits.name_bytes s)) table e in
@@ -103,7 +103,17 @@ apart_parts contents others i e =
     let b = and_parts (not (is_none (content_at contents i))) (not (list_any (λ other. other == i) others)) a.1 in
     (leb-true 5 i a.0, not-true (list_any (λ other. other == i) others) b.1)
 
-not_first : (a i : ℕ) (others : List ℕ) → list_any (λ other. other == i) (a ∷ others) ≡ false → (a ≢ i) × (list_any (λ other. other == i) others ≡ false)
+pub apart_there : (contents : Contents) (others : List ℕ) (i : ℕ) → is_apart contents others i ≡ true → (stream : List ℕ) × (content_at contents i ≡ Some stream)
+unfolding is_apart
+apart_there contents others i e =
+    let a = and_parts (leb 5 i) (not (is_none (content_at contents i)) && not (list_any (λ other. other == i) others)) e in
+    there (content_at contents i) (and_parts (not (is_none (content_at contents i))) (not (list_any (λ other. other == i) others)) a.1).0
+  where
+    there : (o : Option (List ℕ)) → not (is_none o) ≡ true → (stream : List ℕ) × (o ≡ Some stream)
+    there None e = absurd cc
+    there (Some stream) e = (stream, refl)
+
+pub not_first : (a i : ℕ) (others : List ℕ) → list_any (λ other. other == i) (a ∷ others) ≡ false → (a ≢ i) × (list_any (λ other. other == i) others ≡ false)
 not_first a i others e = go (eqb a i) refl e
   where
     go : (b : Bool) → eqb a i ≡ b → (b || list_any (λ other. other == i) others) ≡ false → (a ≢ i) × (list_any (λ other. other == i) others ≡ false)
@@ -112,7 +122,7 @@ not_first a i others e = go (eqb a i) refl e
 
 -- ---- what can be kept
 
-pub can_keep : (limits : Limits) (contents : Contents) (held : Held) → HaveBytes contents → holding limits contents ≡ Ok held → (info : List ℕ) × (content_at contents 1 ≡ Some info) × CanKeep (numbers_of held) info
+pub can_keep : (limits : Bounds) (contents : Contents) (held : Held) → HaveBytes contents → holding limits contents ≡ Ok held → (info : List ℕ) × (content_at contents 1 ≡ Some info) × CanKeep (numbers_of held) info
 can_keep limits contents held bytes e =
     let p = parts limits contents held e in
     let info = info_found contents held.names_stream held.age p.info in

@@ -4,7 +4,7 @@ use Rattle.std.specs.List.{AllByRecursion, list_any}
 use Rattle.std.proofs.lemmas.Bool.{and_from, ne_eqb}
 use Rattle.std.proofs.lemmas.List.Elements.{recursion_from_All}
 use Rattle.msf_blocks.specs.Judging.{◌>>=◌, told_by}
-use Rattle.srv_edge.specs.declared.failed.Limits.{Limits}
+use Rattle.table_model.specs.Bounds.{Bounds, bounded_table}
 use Rattle.leaf_grammar.specs.declared.grammar.Space.{Space}
 use Rattle.leaf_grammar.specs.declared.grammar.Space.TheVariants.{Types, Items}
 use Rattle.msf_image.specs.declared.fault.DamageKind.TheVariants as kind
@@ -22,7 +22,7 @@ use Rattle.record_table.specs.Table.{IsKept, IsRecord, Table}
 use Rattle.names_table.specs.Names.{IsNamesTable, Names}
 use Rattle.names_table.specs.Reading as names
 use Rattle.names_table.specs.Text.{names_text}
-use Rattle.table_model.specs.Tables.{Tables, table_within}
+use Rattle.table_model.specs.Tables.{Tables}
 use Rattle.type_store.specs.Faults.{absent_damage, damage_at, info_damage, names_damage, record_damage}
 use Rattle.type_store.specs.Holds.{Contents, content_apart, content_at, holding, info_in, is_apart, names_held, records_held, stream_of, tables_of, there, with_hashes}
 use Rattle.type_store.proofs.Named.{named_long}
@@ -60,7 +60,7 @@ are_records : (records : List (List ℕ)) → AllByRecursion IsRecord records �
 are_records [] all = all
 are_records (r ∷ records) all = (record { least = all.0.shortest; size = all.0.says }, are_records records all.1)
 
-pub table_written : (limits : Limits) (table : Table) (kept : Kept) → IsKept table → table ≡ table_within limits table.records → CanBeKept kept
+pub table_written : (limits : Bounds) (table : Table) (kept : Kept) → IsKept table → table ≡ bounded_table limits table.records → CanBeKept kept
     → records.reading limits.records limits.bytes (record_stream_text kept table.records) ≡ Ok (record { header = written_header kept table.records; list = table.records })
 table_written limits table kept is within can =
     let most_records : table.max_records ≡ limits.records = ap (λ (t : Table). t.max_records) within in
@@ -69,7 +69,7 @@ table_written limits table kept is within can =
     let are : AreRecords limits.records limits.bytes table.records = record { all = all; few = omega (arith, is.within.few, most_records); short = omega (arith, is.within.short, most_bytes) } in
     written_read limits.records limits.bytes kept table.records (omega (arith, is.most_records, most_records)) (omega (arith, is.most_bytes, most_bytes)) can are
 
-pub records_written : (limits : Limits) (contents : Contents) (space : Space) (others : List ℕ) (table : Table) (kept : Kept) → IsKept table → table ≡ table_within limits table.records → CanBeKept kept
+pub records_written : (limits : Bounds) (contents : Contents) (space : Space) (others : List ℕ) (table : Table) (kept : Kept) → IsKept table → table ≡ bounded_table limits table.records → CanBeKept kept
     → content_at contents (stream_of space) ≡ Some (record_stream_text kept table.records) → is_apart contents others kept.hash_stream ≡ true
     → records_held limits contents space others ≡ Ok (record { header = written_header kept table.records; list = table.records })
 unfolding records_held
@@ -86,7 +86,7 @@ records_written limits contents space others table kept is within can content ap
 abbrev pub NamesAreRead : Type 0
 NamesAreRead = (table : Names) → IsNamesTable table → names.reading table.max_bytes (names_text table.version table.names) ≡ Ok table
 
-pub names_written : NamesAreRead → (limits : Limits) (contents : Contents) (others : List ℕ) (i : ℕ) (table : Names) → IsNamesTable table → table.max_bytes ≡ limits.name_bytes
+pub names_written : NamesAreRead → (limits : Bounds) (contents : Contents) (others : List ℕ) (i : ℕ) (table : Names) → IsNamesTable table → table.max_bytes ≡ limits.name_bytes
     → content_at contents i ≡ Some (names_text table.version table.names) → is_apart contents others i ≡ true → names_held limits contents others i ≡ Ok table
 unfolding names_held
 names_written text_read limits contents others i table is limit content apart =
@@ -98,13 +98,13 @@ names_written text_read limits contents others i table is limit content apart =
 -- ---- the whole
 
 -- what is held, by its parts
-pub parts_held : (limits : Limits) (contents : Contents) (age number : ℕ) (types items : Records) (table : Names) → info_in contents ≡ Ok (number, age) → records_held limits contents Types [] ≡ Ok types
+pub parts_held : (limits : Bounds) (contents : Contents) (age number : ℕ) (types items : Records) (table : Names) → info_in contents ≡ Ok (number, age) → records_held limits contents Types [] ≡ Ok types
     → records_held limits contents Items (types.header.hash_stream ∷ []) ≡ Ok items → names_held limits contents (types.header.hash_stream ∷ items.header.hash_stream ∷ []) number ≡ Ok table
     → holding limits contents ≡ Ok (record { age = age; types = types; items = items; names_stream = number; names = table })
 unfolding holding
 parts_held limits contents age number types items table info is_types is_items is_names = rw (info, is_types, is_items, is_names) refl
 
-pub tables_written : NamesAreRead → (limits : Limits) (kept : KeptNumbers) (info : List ℕ) (age : ℕ) (tables : Tables) (contents : Contents) → CanKeep kept info → AreWithin limits tables → age < 2 ^ 32
+pub tables_written : NamesAreRead → (limits : Bounds) (kept : KeptNumbers) (info : List ℕ) (age : ℕ) (tables : Tables) (contents : Contents) → CanKeep kept info → AreWithin limits tables → age < 2 ^ 32
     → IsWritten kept info age tables contents → holding limits contents ≡ Ok (written_held kept age tables)
 tables_written text_read limits kept info age tables contents can within small is =
     let types = kept.types.hash_stream in
@@ -119,5 +119,5 @@ tables_written text_read limits kept info age tables contents can within small i
     (records_written limits contents Items (types ∷ []) tables.items kept.items within.items within.item_limits can.items is.items items_apart)
     (names_written text_read limits contents (types ∷ items ∷ []) kept.names_stream tables.names within.names within.name_limit is.names names_apart)
 
-pub written_tables : (limits : Limits) (kept : KeptNumbers) (age : ℕ) (tables : Tables) → AreWithin limits tables → tables_of limits (written_held kept age tables) ≡ tables
+pub written_tables : (limits : Bounds) (kept : KeptNumbers) (age : ℕ) (tables : Tables) → AreWithin limits tables → tables_of limits (written_held kept age tables) ≡ tables
 written_tables limits kept age tables within = λ i. record { types = sym within.type_limits i; items = sym within.item_limits i; names = tables.names }

@@ -7,6 +7,9 @@ use Rattle.leaf_grammar.specs.declared.grammar.Space.TheVariants.{Types, Items}
 use Rattle.msf_image.specs.declared.fault.Damage.{Damage}
 use Rattle.msf_image.specs.declared.fault.DamageKind.{DamageKind}
 use Rattle.msf_image.specs.declared.fault.DamageKind.TheVariants as kind
+use Rattle.msf_image.specs.declared.fault.OpenFault.{OpenFault}
+use Rattle.msf_image.specs.declared.fault.OpenFault.TheVariants as fault
+use Rattle.msf_image.specs.Faults.{fault_of_damage}
 use Rattle.names_table.specs.declared.fault.NamesFault.{NamesFault}
 use Rattle.names_table.specs.declared.fault.NamesFault.TheVariants as names
 use Rattle.tpi_stream.specs.declared.fault.TpiFault.{TpiFault}
@@ -59,3 +62,12 @@ names_damage (names.Header at) = damage_at kind.NamesHeader at
 names_damage (names.Size at) = damage_at kind.NamesSize at
 names_damage (names.Text at) = damage_at kind.NamesText at
 names_damage names.OutOfMemory = damage_at kind.NamesHeader 0
+
+-- what a fault of a stream is, where memory may be wanted too
+abbrev pub record_fault : Space → TpiFault → OpenFault
+record_fault space records.OutOfMemory = fault.OutOfMemory
+record_fault space f = fault_of_damage (record_damage space f)
+
+abbrev pub names_fault : NamesFault → OpenFault
+names_fault names.OutOfMemory = fault.OutOfMemory
+names_fault f = fault_of_damage (names_damage f)

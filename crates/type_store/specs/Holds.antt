@@ -2,7 +2,7 @@
 -- tests of each stream.
 use Rattle.std.specs.Prelude.{ℕ, ◌==◌, ◌&&◌, nat_le, not, Bool, if◌then◌else◌, List, [], ◌∷◌, slice_index_or, codes, Option, None, Some, is_none, unwrap_or, Result, Ok, Err}
 use Rattle.std.specs.List.{list_any}
-use Rattle.srv_edge.specs.declared.failed.Limits.{Limits}
+use Rattle.table_model.specs.Bounds.{Bounds, bounded_table}
 use Rattle.leaf_grammar.specs.declared.grammar.Space.{Space}
 use Rattle.leaf_grammar.specs.declared.grammar.Space.TheVariants.{Types, Items}
 use Rattle.msf_blocks.specs.Judging.{◌>>=◌, told_by}
@@ -13,7 +13,7 @@ use Rattle.tpi_stream.specs.declared.reading.Records.{Records}
 use Rattle.tpi_stream.specs.Reading as records
 use Rattle.names_table.specs.Names.{Names}
 use Rattle.names_table.specs.Reading as names
-use Rattle.table_model.specs.Tables.{Tables, table_within}
+use Rattle.table_model.specs.Tables.{Tables}
 use Rattle.type_store.specs.Faults.{absent_damage, damage_at, hash_damage, info_damage, names_damage, record_damage}
 
 -- the contents of all streams, stream 0 first: each is absent, or bytes
@@ -33,8 +33,8 @@ pub record Held : Type 0 where
   pub names : Names
 
 -- the tables that are made of it
-abbrev pub tables_of : Limits → Held → Tables
-tables_of limits held = record { types = table_within limits held.types.list; items = table_within limits held.items.list; names = held.names }
+abbrev pub tables_of : Bounds → Held → Tables
+tables_of bounds held = record { types = bounded_table bounds held.types.list; items = bounded_table bounds held.items.list; names = held.names }
 
 -- a content, or the damage where it is absent
 abbrev pub there : Damage → Option (List ℕ) → Result (List ℕ) Damage
@@ -61,10 +61,10 @@ abbrev pub with_hashes : Bool → Space → Records → Result Records Damage
 with_hashes may space records = if may then Ok records else Err (hash_damage space)
 
 -- The records of a stream, whose hash stream is there and is none of the others. The hash stream itself is not read.
-unfoldable pub records_held : Limits → Contents → Space → List ℕ → Result Records Damage
-records_held limits contents space others = do
+unfoldable pub records_held : Bounds → Contents → Space → List ℕ → Result Records Damage
+records_held bounds contents space others = do
   stream ← there (absent_damage space) (content_at contents (stream_of space))
-  found ← told_by (record_damage space) (records.reading limits.records limits.bytes stream)
+  found ← told_by (record_damage space) (records.reading bounds.records bounds.bytes stream)
   with_hashes (is_apart contents others found.header.hash_stream) space found
 
 -- the content of a stream that is none of the others
@@ -72,16 +72,16 @@ abbrev pub content_apart : Contents → List ℕ → ℕ → Option (List ℕ)
 content_apart contents others i = if is_apart contents others i then content_at contents i else None
 
 -- the names of the stream of this number
-unfoldable pub names_held : Limits → Contents → List ℕ → ℕ → Result Names Damage
-names_held limits contents others i = do
+unfoldable pub names_held : Bounds → Contents → List ℕ → ℕ → Result Names Damage
+names_held bounds contents others i = do
   stream ← there (damage_at kind.NamesStream i) (content_apart contents others i)
-  told_by names_damage (names.reading limits.name_bytes stream)
+  told_by names_damage (names.reading bounds.name_bytes stream)
 
--- what contents hold within limits, or their first damage
-unfoldable pub holding : Limits → Contents → Result Held Damage
-holding limits contents = do
+-- what contents hold within bounds, or their first damage
+unfoldable pub holding : Bounds → Contents → Result Held Damage
+holding bounds contents = do
   info ← info_in contents
-  types ← records_held limits contents Types []
-  items ← records_held limits contents Items (types.header.hash_stream ∷ [])
-  names ← names_held limits contents (types.header.hash_stream ∷ items.header.hash_stream ∷ []) info.0
+  types ← records_held bounds contents Types []
+  items ← records_held bounds contents Items (types.header.hash_stream ∷ [])
+  names ← names_held bounds contents (types.header.hash_stream ∷ items.header.hash_stream ∷ []) info.0
   Ok (record { age = info.1; types = types; items = items; names_stream = info.0; names = names })

@@ -1,4 +1,14 @@
 pub mod Faults
 pub mod Holds
+pub mod Commits
+pub mod Opening
+pub mod Views
+pub mod Files
+pub mod Inside
+pub mod Opened
 pub mod Written
 pub mod NewFile
+pub mod Commit
+pub mod Committed
+pub mod Shape
+pub mod Planning

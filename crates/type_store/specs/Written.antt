@@ -1,26 +1,20 @@
 -- What the contents of a file are that is written for tables, and what they hold.
 use Rattle.std.specs.Prelude.{◌≡◌, ◌≢◌, ◌≤◌, ◌<◌, ◌^◌, ℕ, List, All, codes, Some, Ok}
-use Rattle.srv_edge.specs.declared.failed.Limits.{Limits}
+use Rattle.table_model.specs.Bounds.{Bounds, bounded_table}
 use Rattle.info_stream.specs.Named.{stream_named}
 use Rattle.info_stream.specs.Text.{with_age}
-use Rattle.tpi_stream.specs.declared.header.Kept.{Kept}
 use Rattle.tpi_stream.specs.Hashes.{hash_text}
 use Rattle.tpi_stream.specs.Written.{CanBeKept, kept_of, record_stream_text, written_header}
 use Rattle.record_table.specs.Table.{IsKept}
 use Rattle.names_table.specs.Names.{IsNamesTable}
 use Rattle.names_table.specs.Text.{names_text}
-use Rattle.table_model.specs.Tables.{Tables, table_within}
+use Rattle.table_model.specs.Tables.{Tables}
+pub use Rattle.type_store.specs.declared.tables.KeptNumbers.{KeptNumbers}
 use Rattle.type_store.specs.Holds.{Contents, Held, content_at}
 
 -- all contents are bytes
 abbrev pub HaveBytes : Contents → Type 0
 HaveBytes contents = (i : ℕ) (stream : List ℕ) → content_at contents i ≡ Some stream → All (λ byte. byte < 2 ^ 8) stream
-
--- what a file keeps, whatever is written to it: numbers of both streams of records, and the stream of names
-pub record KeptNumbers : Type 0 where
-  pub types : Kept
-  pub items : Kept
-  pub names_stream : ℕ
 
 -- the numbers that what is held keeps
 abbrev pub numbers_of : Held → KeptNumbers
@@ -49,12 +43,12 @@ pub record CanKeep (kept : KeptNumbers) (info : List ℕ) : Type 0 where
   pub names_no_items : kept.items.hash_stream ≢ kept.names_stream
 
 -- tables as they are kept, with the limits of a file
-pub record AreWithin (limits : Limits) (tables : Tables) : Type 0 where
+pub record AreWithin (limits : Bounds) (tables : Tables) : Type 0 where
   pub types : IsKept tables.types
   pub items : IsKept tables.items
   pub names : IsNamesTable tables.names
-  pub type_limits : tables.types ≡ table_within limits tables.types.records
-  pub item_limits : tables.items ≡ table_within limits tables.items.records
+  pub type_limits : tables.types ≡ bounded_table limits tables.types.records
+  pub item_limits : tables.items ≡ bounded_table limits tables.items.records
   pub name_limit : tables.names.max_bytes ≡ limits.name_bytes
 
 -- what is held by contents that are written for an age and tables

@@ -5,6 +5,7 @@ ghost use Rattle.srv_edge.specs.declared.failed.Limits.{Limits};
 ghost use Rattle.msf_image.specs.declared.fault.DamageKind.TheVariants as kind;
 ghost use Rattle.names_table.specs.Reading as names;
 ghost use Rattle.names_table.specs.declared.fault.NamesFault.TheVariants as names_fault;
+ghost use Rattle.table_model.specs.Bounds.{Bounds, bounds_of};
 ghost use Rattle.table_model.specs.Tables.{Tables, empty_tables};
 ghost use Rattle.tpi_stream.specs.Reading as records;
 ghost use Rattle.tpi_stream.specs.declared.fault.TpiFault.TheVariants as tpi_fault;
@@ -18,12 +19,12 @@ use names_table::written_names_are_read;
 /// A law: contents that are written for an age and tables hold exactly this age and these tables,
 /// and keep the numbers with which they were written.
 pub fn written_tables_are_held()
-    ensures held { (limits : Limits) (kept : KeptNumbers) (info : List ℕ) (age : ℕ)
-        (tables : Tables) (contents : Contents) → CanKeep kept info → AreWithin limits tables
+    ensures held { (bounds : Bounds) (kept : KeptNumbers) (info : List ℕ) (age : ℕ)
+        (tables : Tables) (contents : Contents) → CanKeep kept info → AreWithin bounds tables
         → age < 2 ^ 32 → IsWritten kept info age tables contents
-        → holding limits contents ≡ Ok (written_held kept age tables) }
-    ensures tables { (limits : Limits) (kept : KeptNumbers) (age : ℕ) (tables : Tables)
-        → AreWithin limits tables → tables_of limits (written_held kept age tables) ≡ tables }
+        → holding bounds contents ≡ Ok (written_held kept age tables) }
+    ensures tables { (bounds : Bounds) (kept : KeptNumbers) (age : ℕ) (tables : Tables)
+        → AreWithin bounds tables → tables_of bounds (written_held kept age tables) ≡ tables }
     ensures age { (kept : KeptNumbers) (age : ℕ) (tables : Tables)
         → (written_held kept age tables).age ≡ age }
     ensures kept { (kept : KeptNumbers) (age : ℕ) (tables : Tables)
@@ -35,8 +36,8 @@ pub fn written_tables_are_held()
 /// A law: contents that hold something name in their PDB stream, and have in their headers, numbers
 /// with which other tables can be written.
 pub fn held_numbers_can_be_kept()
-    ensures { (limits : Limits) (contents : Contents) (held : Held) → HaveBytes contents
-        → holding limits contents ≡ Ok held → (info : List ℕ)
+    ensures { (bounds : Bounds) (contents : Contents) (held : Held) → HaveBytes contents
+        → holding bounds contents ≡ Ok held → (info : List ℕ)
         × (content_at contents 1 ≡ Some info) × CanKeep (numbers_of held) info }
 {}
 
@@ -45,12 +46,12 @@ pub fn held_numbers_can_be_kept()
 pub fn new_file_is_written()
     ensures can { (guid : List ℕ) (signature : ℕ) → length guid ≡ 16
         → CanKeep new_numbers (new_info guid signature) }
-    ensures within { (limits : Limits) → AreWithin limits (empty_tables limits) }
+    ensures within { (limits : Limits) → AreWithin (bounds_of limits) (empty_tables limits) }
     ensures written { (limits : Limits) (guid : List ℕ) (signature : ℕ)
         → IsWritten new_numbers (new_info guid signature) 1 (empty_tables limits)
         (new_contents guid signature) }
     ensures held { (limits : Limits) (guid : List ℕ) (signature : ℕ) → length guid ≡ 16
-        → holding limits (new_contents guid signature)
+        → holding (bounds_of limits) (new_contents guid signature)
         ≡ Ok (written_held new_numbers 1 (empty_tables limits)) }
 {
     written_tables_are_held();
@@ -61,18 +62,18 @@ pub fn new_file_is_written()
 /// without the signature or with strings that pass the stream's end.
 pub fn changed_files_are_damaged()
     ensures info { (limits : Limits)
-        → holding limits (changed 1 (take 27)) ≡ Err (damage_at kind.InfoShort 12) }
+        → holding (bounds_of limits) (changed 1 (take 27)) ≡ Err (damage_at kind.InfoShort 12) }
     ensures types { (limits : Limits)
-        → holding limits (changed 2 (replaced 28 (little_bytes 4 4095)))
+        → holding (bounds_of limits) (changed 2 (replaced 28 (little_bytes 4 4095)))
         ≡ Err (damage_at kind.TypesHeader 28) }
     ensures items { (limits : Limits)
-        → holding limits (changed 4 (replaced 20 (little_bytes 2 5)))
+        → holding (bounds_of limits) (changed 4 (replaced 20 (little_bytes 2 5)))
         ≡ Err (damage_at kind.ItemsHash 20) }
     ensures names { (limits : Limits)
-        → holding limits (changed 7 (replaced 0 (little_bytes 1 0)))
+        → holding (bounds_of limits) (changed 7 (replaced 0 (little_bytes 1 0)))
         ≡ Err (damage_at kind.NamesHeader 0) }
     ensures size { (limits : Limits)
-        → holding limits (changed 7 (replaced 8 (little_bytes 4 18)))
+        → holding (bounds_of limits) (changed 7 (replaced 8 (little_bytes 4 18)))
         ≡ Err (damage_at kind.NamesSize 8) }
 {}
 

@@ -60,7 +60,7 @@ pub(crate) fn talk(
     let mut source = source_of(alloc, input, usize::from(more) + 1, source_fails)?;
     let mut sink = MemSink::new(alloc, Vec::from_slice(alloc, sink_fails)?);
     let words = session_words(alloc)?;
-    let status = run(alloc, Some(keys), &words, &mut source, &mut sink, no_file()).0;
+    let status = run(alloc, keys, &words, &mut source, &mut sink, no_file()).0;
     Ok((hex::encode(alloc, sink.taken())?, status))
 }
 
@@ -374,38 +374,14 @@ fn other_words_are_no_form(rt: HostRuntime) -> Result<(), Fail> {
     let mut source = source_of(rt.alloc(), ADD, 1000, &[])?;
     let mut sink = MemSink::new(rt.alloc(), Vec::new(rt.alloc()));
     let none = Vec::new(rt.alloc());
-    let status = run(
-        rt.alloc(),
-        Some(keys),
-        &none,
-        &mut source,
-        &mut sink,
-        no_file(),
-    )
-    .0;
+    let status = run(rt.alloc(), keys, &none, &mut source, &mut sink, no_file()).0;
     assert_eq!(rt; status, Status::Usage);
     let mut two = session_words(rt.alloc())?;
     two.push(Word::new(String::from_str(rt.alloc(), "P")?))?;
-    let status = run(
-        rt.alloc(),
-        Some(keys),
-        &two,
-        &mut source,
-        &mut sink,
-        no_file(),
-    )
-    .0;
+    let status = run(rt.alloc(), keys, &two, &mut source, &mut sink, no_file()).0;
     assert_eq!(rt; (status, status.code()), (Status::Usage, 2));
     let words = session_words(rt.alloc())?;
-    let status = run(
-        rt.alloc(),
-        Some(keys),
-        &words,
-        &mut source,
-        &mut sink,
-        no_file(),
-    )
-    .0;
+    let status = run(rt.alloc(), keys, &words, &mut source, &mut sink, no_file()).0;
     assert_eq!(rt; (status, status.code()), (Status::Ok, 0));
     assert_eq!(rt; hex::encode(rt.alloc(), sink.taken())?.as_str(), FIRST);
     Ok(())
@@ -446,15 +422,7 @@ fn one_byte_a_give(rt: HostRuntime) -> Result<(), Fail> {
         faults: 0,
     };
     let words = session_words(rt.alloc())?;
-    let status = run(
-        rt.alloc(),
-        Some(keys),
-        &words,
-        &mut source,
-        &mut sink,
-        no_file(),
-    )
-    .0;
+    let status = run(rt.alloc(), keys, &words, &mut source, &mut sink, no_file()).0;
     assert_eq!(rt; status, Status::Ok);
     let text = hex::encode(rt.alloc(), sink.taken.as_slice())?;
     assert_eq!(rt; text.as_str(), TWICE);
@@ -478,7 +446,7 @@ pub(crate) fn talk_of(
     let mut source = MemSource::new(bytes, 65_536, Vec::new(alloc));
     let mut sink = MemSink::new(alloc, Vec::new(alloc));
     let words = session_words(alloc)?;
-    let status = run(alloc, Some(keys), &words, &mut source, &mut sink, no_file()).0;
+    let status = run(alloc, keys, &words, &mut source, &mut sink, no_file()).0;
     Ok((hex::encode(alloc, sink.taken())?, status))
 }
 

@@ -2,8 +2,8 @@ use Rattle.std.proofs.Common.{inl}
 use Rattle.names_table.proofs.Reading.{all_read, strings_are}
 use Rattle.names_table.proofs.read.read_names.Goals as goal
 
-pub returns : goal.returns
-returns c =
+pub returns-clause-exact : goal.returns-clause-exact
+returns-clause-exact c =
     let stream = c.args.stream.now in
     let h = c.in_ok-version.ensures.ok in
     inl

@@ -1,5 +1,6 @@
 use Rattle.std.proofs.Common.{arith}
 use Rattle.info_stream.specs.Text.{new_info}
+use Rattle.table_model.specs.Bounds.{bounds_of}
 use Rattle.table_model.specs.Tables.{empty_tables}
 use Rattle.type_store.specs.NewFile.{new_contents, new_numbers}
 use Rattle.type_store.proofs.NewFile.{empty_within, new_can_keep, new_written}
@@ -16,4 +17,4 @@ returns-clause-written c = λ limits guid signature. new_written guid signature 
 
 pub returns-clause-held : goal.returns-clause-held
 returns-clause-held c = λ limits guid signature len.
-    c.written_tables_are_held.ensures.held limits new_numbers (new_info guid signature) 1 (empty_tables limits) (new_contents guid signature) (new_can_keep guid signature len) (empty_within limits) (omega arith) (new_written guid signature limits)
+    c.written_tables_are_held.ensures.held (bounds_of limits) new_numbers (new_info guid signature) 1 (empty_tables limits) (new_contents guid signature) (new_can_keep guid signature len) (empty_within limits) (omega arith) (new_written guid signature limits)

@@ -24,6 +24,7 @@ returns-clause-serves g c =
         no_more = s.no_more;
         bound = s.bound;
         talk = subst (λ old. IsTalk Answers old s.frames s.replies c.serve_link.new.desk) c.requires s.talk;
+        replied = s.replied;
         sends = s.sends;
         ends = s.ends;
       };
