@@ -19,7 +19,7 @@ returns-in-Ok-clause-printed g c =
     let settled_is = c.in-Ok.ensures.opened.file in
     let newest : newest_cut file.file ≡ cut = ap newest_cut settled_is ∙ ap (λ (n : ℕ). cut_of n tables) (sym (ap (λ f. (newest_cut f).number) settled_is)) in
     let told : IsTrue g.D.Device.tells → (read_file seen MOST_BLOCKS ≡ Ok file.image) × Holds standard seen cut =
-        λ tells. let t = c.in-Ok.ensures.told tells in (t.0, subst (λ (x : Cut). Holds standard seen x) newest t.1)
+    λ tells. let t = c.in-Ok.ensures.told tells in (t.0, subst (λ (x : Cut). Holds standard seen x) newest t.1)
     in
     file_printed g.D.Device g.K.Sink c.args.what c.args.device c.args.sink.now c.show_file-status.new.sink c.show_file-status.result file.image cut told
     c.show_file-status.ensures.printed
