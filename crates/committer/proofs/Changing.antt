@@ -1,10 +1,13 @@
 -- A change that came to a device, and what a store keeps then.
-use Rattle.std.proofs.Common.{◌≡◌, ◌≤◌, ◌⊎◌, ℕ, Bool, IsTrue, List, Option, Some, None, true, refl, sym, subst, ap, ◌∙◌, inl, inr}
+use Rattle.std.proofs.Common.{◌≡◌, ◌≤◌, ◌⊎◌, ℕ, Bool, IsTrue, List, ◌∷◌, [], drop, length, map, Option, Some, None, true, false, refl, sym, subst, ap, ◌∙◌, inl, inr, arith}
+use Rattle.std.proofs.lemmas.List.{length-map}
+use Rattle.srv_edge.specs.Disk.{LeavesOnly}
+use Rattle.srv_edge.proofs.Moments.{weaker}
 use Rattle.std.specs.Prelude.{Result, Ok, Err, OnErr, is_some}
 use Rattle.msf_blocks.specs.Superblock.{superblock_text}
 use Rattle.msf_image.specs.declared.image.Image.{Image}
 use Rattle.msf_image.specs.Reads.{IsWhole}
-use Rattle.msf_image.specs.Relation.{Reads, contents_in}
+use Rattle.msf_image.specs.Relation.{Reads, contents_in, stream_in}
 use Rattle.msf_image.proofs.Sparing.{headed_contents}
 use Rattle.cow_streams.specs.Planned.{Planned}
 use Rattle.committer.specs.Change.{Change, IsEither, IsNew, IsOld, IsReady}
@@ -147,3 +150,36 @@ module _ (tells : Bool) (limit : ℕ) (old : File) (first : List ℕ) (mid : Fil
 
   pub either_shows : (c : List ℕ) → IsEither (write_change limit old first plan) plan.image c → ShowsEither limit old first plan c
   either_shows c is = elim is [ inl reads ↦ inl (newest_shows limit old first c reads) | inr turned ↦ inr turned.0 ]
+
+-- ---- a device that does not tell its content
+
+-- a change over contents that are more than an image has, so that no file is as before it, nor as after it
+abbrev pub no_change : ℕ → Image → List ℕ → Change
+no_change limit image seen = record { limit = limit; image = image; contents = None ∷ contents_in seen image; next = [] }
+
+none_other : (image : Image) (seen c : List ℕ) → (None ∷ contents_in seen image) ≡ contents_in c image → ⊥
+none_other image seen c is = omega (arith, ap length is, length-map (drop 1 image.directory) (stream_in seen image.head), length-map (drop 1 image.directory) (stream_in c image.head))
+
+none_either : (limit : ℕ) (image new : Image) (seen c : List ℕ) → IsEither (no_change limit image seen) new c → ⊥
+none_either limit image new seen c is = elim is [ inl old ↦ none_other image seen c old.contents | inr turned ↦ none_other image seen c (sym turned.1) ]
+
+module _ {D : Type 0} (moment : D → ℕ) (left_since : D → ℕ → List ℕ → Type 0) (limit : ℕ) (images : List ℕ → Type 0) (seen : List ℕ) (old new : D) where
+  -- it leaves nothing while a superblock is written
+  pub told_turning : (tells : Bool) (P : List ℕ → Type 0) (image : Image) → ((c : List ℕ) → images c → IsTrue tells) → IsWhole image → LeavesOnly moment left_since old new P
+      → ((change : Change) → CanTurn change image images → LeavesOnly moment left_since old new (IsEither change image)) → LeavesOnly moment left_since old new (λ _. IsTrue tells)
+  told_turning true P image told whole run each = weaker moment left_since old new P (λ _. IsTrue true) run (λ c is. refl)
+  told_turning false P image told whole run each =
+      let change = no_change limit image seen in
+      weaker moment left_since old new (IsEither change image) (λ _. IsTrue false)
+      (each change (record { old_whole = whole; now = λ c now. absurd (let no : false ≡ true = told c now in cc) }))
+      (λ c is. absurd (none_either limit image image seen c is))
+
+  -- nor while a plan is
+  pub told_putting : (tells : Bool) (image : Image) (plan : Planned) → ((c : List ℕ) → images c → IsTrue tells) → IsWhole image → IsPlanned limit image plan → (P : List ℕ → Type 0) → LeavesOnly moment left_since old new P
+      → ((change : Change) → CanPut change plan seen images → LeavesOnly moment left_since old new (IsEither change plan.image)) → LeavesOnly moment left_since old new (λ _. IsTrue tells)
+  told_putting true image plan told whole planned P run each = weaker moment left_since old new P (λ _. IsTrue true) run (λ c is. refl)
+  told_putting false image plan told whole planned P run each =
+      let change = no_change limit image seen in
+      weaker moment left_since old new (IsEither change plan.image) (λ _. IsTrue false)
+      (each change (record { old_whole = whole; planned = planned; next = λ c now. absurd (let no : false ≡ true = told c now in cc); now = λ c now. absurd (let no : false ≡ true = told c now in cc) }))
+      (λ c is. absurd (none_either limit image plan.image seen c is))

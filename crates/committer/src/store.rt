@@ -11,6 +11,7 @@ ghost use Rattle.msf_image.specs.Faults.{damage_in};
 ghost use Rattle.msf_image.specs.Packed.{IsPackable, packed_file, packed_image, packed_super, present};
 ghost use Rattle.msf_image.specs.Reads.{IsWhole, content_of, read_file};
 ghost use Rattle.msf_image.specs.Relation.{Reads, contents_in};
+ghost use Rattle.msf_image.specs.Spelled.{IsSpelled};
 ghost use Rattle.cow_streams.specs.declared.fault.Which.{Which};
 ghost use Rattle.cow_streams.specs.Edits.{AreEdits, edited};
 ghost use Rattle.cow_streams.specs.Plan.{IsPlan};
@@ -67,6 +68,8 @@ impl<D: Device> Store<D> {
         ensures reads { IsTrue D.tells → Tells (λ refused. damage_in refused.0)
             (λ s. newest s.file) result (read_file (D.seen device) limit) }
         ensures settled { IfOk result (λ s. IsSettledFile s.file) }
+        ensures spelled { IfOk result (λ s. IsSpelled (newest s.file).head
+            (newest s.file).directory) }
         ensures limit { IfOk result (λ s. s.limit ≡ limit) }
         // The only image is what a read gives.
         ensures only { IfOk result (λ s. Only (D.seen device) (D.may_leave s.device)) }
@@ -244,6 +247,9 @@ impl<D: Device> Store<D> {
         // A crash at any moment leaves what the file showed, or the new image.
         ensures any_moment { LeavesOnly D.moment D.left_since self.old.device self.new.device
             (ShowsEither self.old.limit self.old.file (D.seen self.old.device) prepared) }
+        // A device that does not tell its content leaves nothing.
+        ensures told { LeavesOnly D.moment D.left_since self.old.device self.new.device
+            (λ _. IsTrue D.tells) }
         ensures done { OnOk result (self.new.file ≡ settled prepared.image) }
         ensures only { OnOk result
             (Only (file_after self.old.file (D.seen self.old.device) prepared)
@@ -263,6 +269,8 @@ impl<D: Device> Store<D> {
         ensures limit { self.new.limit ≡ self.old.limit }
         ensures any_moment { LeavesOnly D.moment D.left_since self.old.device self.new.device
             (Shows self.old.limit self.old.file (D.seen self.old.device)) }
+        ensures told { LeavesOnly D.moment D.left_since self.old.device self.new.device
+            (λ _. IsTrue D.tells) }
         ensures done { OnOk result (IsOnNewest D.tells self.old.file (D.seen self.old.device)
             self.new.file (D.seen self.new.device)) }
         ensures unchanged { OnErr result (IsUnchanged D.tells self.old.file

@@ -15,6 +15,7 @@ ghost use Rattle.stream_directory.specs.Reading.{words_in};
 ghost use Rattle.msf_image.specs.Faults.{damage_in};
 ghost use Rattle.msf_image.specs.Reads.{HasBlocks, IsWhole, active_map_blocks, bytes_of_blocks, free_blocks_in, listed_blocks, read_file, streams_in, superblock_in, used_blocks, with_free};
 ghost use Rattle.msf_image.specs.Relation.{Reads, contents_in};
+ghost use Rattle.msf_image.specs.Spelled.{IsSpelled};
 
 use crate::blocks::{ReadFault, read_blocks};
 use crate::fault::{DamageKind, OpenFault};
@@ -34,6 +35,7 @@ pub fn open_image<D: Device>(alloc: Global, device: &mut D, limit: u32) -> Resul
     ensures image { IsTrue D.tells → IfOk result
         (λ image. Reads (D.seen device.old) limit image (contents_in (D.seen device.old) image)) }
     ensures whole { IfOk result IsWhole }
+    ensures spelled { IfOk result (λ image. IsSpelled image.head image.directory) }
     ensures limited { IfOk result (λ image. image.head.blocks ≤ limit) }
     ensures inside { IsTrue D.tells → IfOk result
         (λ image. HasBlocks (D.seen device.old) image.head) }
@@ -148,6 +150,7 @@ fn read_streams<D: Device>(
     requires used { All (λ b. b < head.now.blocks) listed.now }
     requires count { length listed.now ≡ 1 + blocks_of_size head.now.block head.now.dir_bytes }
     ensures found { IfOk result (IsDirectory head.now listed.now) }
+    ensures short { IfOk result (IsSpelled head.now) }
     ensures spelled { IsTrue D.tells → IfOk result (Spells head.now.block (take head.now.dir_bytes
         (bytes_of_blocks head.now.block (D.seen device.old) (drop 1 listed.now)))) }
     ensures reads { IsTrue D.tells → Tells damage_in (λ streams. streams) result

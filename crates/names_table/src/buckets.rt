@@ -26,8 +26,8 @@ pub(crate) fn buckets_of(
     Ok(buckets)
 }
 
-// How many buckets so many names have: a quarter more than names, and two.
-fn bucket_count(names: u32) -> u32
+/// How many buckets so many names have: a quarter more than names, and two.
+pub(crate) fn bucket_count(names: u32) -> u32
     requires { names ≤ MOST_NAME_BYTES }
     ensures { result ≡ bucket_count names }
 {

@@ -1,13 +1,14 @@
-ghost use Rattle.std.specs.Prelude.{◌≡◌, ◌≤◌, ◌^◌, ◌↔◌, ◌⊎◌, ◌++◌, [], ◌∷◌, Err, None, Ok, Some, length, slice_get, IfOk, IfSome, IsTrue, OnErr, OnOk};
+ghost use Rattle.std.specs.Prelude.{◌≡◌, ◌≤◌, ◌+◌, ◌^◌, ◌↔◌, ◌⊎◌, ◌++◌, [], ◌∷◌, Err, None, Ok, Some, drop, length, slice_get, take, IfOk, IfSome, IsTrue, OnErr, OnOk};
 ghost use Rattle.std.specs.Option.{option_copied};
 ghost use Rattle.srv_edge.specs.declared.limit.TheConstants.{NAME_BYTES};
 ghost use Rattle.names_table.specs.Names.{Adds, HasRoomFor, IsName, IsNamesTable, Names, bytes_of, name_at, offset_of};
 ghost use Rattle.names_table.specs.Reading.{reading};
 ghost use Rattle.names_table.specs.Text.{names_text};
+ghost use Rattle.names_table.specs.declared.read.TheConstants.{HEADER_BYTES};
 
 use crate::fault::NameFault;
 use crate::list::NameList;
-use crate::write::names_text;
+use crate::write::{names_text_first, names_text_from, names_text_len};
 use indexmap::IndexMap;
 use srv_edge::Limits;
 use std::alloc::{AllocError, Global};
@@ -147,7 +148,33 @@ impl NamesTable {
         ensures read { IfOk result
             (λ text. reading self.now.max_bytes text.items ≡ Ok self.now) }
     {
-        names_text(alloc, self.version, &self.list)
+        names_text_from(alloc, self.version, &self.list, 0)
+    }
+
+    /// How many bytes that text has.
+    pub fn text_len(&self) -> u32
+        ensures { result ≡ length (names_text self.now.version self.now.names) }
+    {
+        names_text_len(&self.list)
+    }
+
+    /// The same text from a place on that is not behind the strings.
+    pub fn write_names_from(&self, alloc: Global, at: u32) -> Result<Vec<u8>, AllocError>
+        requires { at ≤ HEADER_BYTES + bytes_of self.now.names }
+        ensures { IfOk result
+            (λ text. text.items ≡ drop at (names_text self.now.version self.now.names)) }
+    {
+        names_text_from(alloc, self.version, &self.list, at)
+    }
+
+    /// So many of the first bytes of that text, none of which stands behind the strings. No name
+    /// is hashed.
+    pub fn write_names_first(&self, alloc: Global, count: u32) -> Result<Vec<u8>, AllocError>
+        requires { count ≤ HEADER_BYTES + bytes_of self.now.names }
+        ensures { IfOk result
+            (λ text. text.items ≡ take count (names_text self.now.version self.now.names)) }
+    {
+        names_text_first(alloc, self.version, &self.list, count)
     }
 
     /// How many names there are, the empty one at 0 not among them.

@@ -1,11 +1,13 @@
 -- The texts of records, and of more records behind them.
-use Rattle.std.proofs.Common.{◌≡◌, ◌≤◌, ◌<◌, ◌+◌, ◌*◌, ℕ, zero, suc, List, [], ◌∷◌, ◌++◌, length, get_or, append_assoc, refl, sym, ap, ◌∙◌, arith}
+use Rattle.std.proofs.Common.{◌≡◌, ◌≤◌, ◌<◌, ◌+◌, ◌-◌, ◌*◌, ◌/◌, ◌%◌, ℕ, zero, suc, List, [], ◌∷◌, ◌++◌, Result, Ok, Err, OnOk, length, take, drop, get_or, append_assoc, refl, sym, ap, ◌∙◌, arith}
 use Rattle.std.specs.List.{flat_map, range_with_len}
 use Rattle.std.proofs.lemmas.Grind.{flat_map-append}
-use Rattle.std.proofs.lemmas.List.{get_or-append-add, get_or_append_left, length-append, take-append-le}
+use Rattle.std.proofs.lemmas.List.{get_or-append-add, get_or_append_left, drop-append-le, length-append, length-drop, length-take-le, take-append-drop, take-append-le, drop_all}
+use Rattle.std.proofs.lemmas.Nat.{div-add-mod'}
+use Rattle.std.proofs.Math.Seq.{drop-append-add}
 use Rattle.srv_edge.specs.Records.{joined}
 use Rattle.tpi_stream.specs.declared.header.Kept.{Kept}
-use Rattle.tpi_stream.specs.Hashes.{bucket_text, hash_text, hash_values, index_offsets, offset_between, offset_text, start_at}
+use Rattle.tpi_stream.specs.Hashes.{bucket_text, hash_text, hash_values, index_offsets, offset_between, offset_text, offsets_between, start_at}
 use Rattle.tpi_stream.specs.HeaderText.{header_text}
 use Rattle.tpi_stream.specs.Written.{record_stream_text, written_header}
 use Rattle.tpi_stream.proofs.HeaderTexts.{length-header_text}
@@ -74,18 +76,14 @@ range-append a (suc m) n = ap (λ (k : ℕ). range_with_len a k) count ∙ ap (�
 pub start-append : (xs ys : List (List ℕ)) (i : ℕ) → i ≤ length xs → start_at (xs ++ ys) i ≡ start_at xs i
 start-append xs ys i le = ap (λ records. length (joined records)) (take-append-le i xs ys le)
 
--- the index offsets of the records from a position on
-abbrev pub offsets_behind : List (List ℕ) → ℕ → ℕ → List ℕ
-offsets_behind records i count = flat_map (offset_text records) (range_with_len i count)
-
 -- those of the first records are as they were
-offsets_before : (xs ys : List (List ℕ)) (i count : ℕ) → i + count ≤ length xs → offsets_behind (xs ++ ys) i count ≡ offsets_behind xs i count
+offsets_before : (xs ys : List (List ℕ)) (i count : ℕ) → i + count ≤ length xs → offsets_between (xs ++ ys) i count ≡ offsets_between xs i count
 offsets_before xs ys i zero le = refl
 offsets_before xs ys i (suc count) le =
     let first : offset_text (xs ++ ys) i ≡ offset_text xs i = λ k. offset_between i (start-append xs ys i (omega (arith, le)) k) (start-append xs ys (i + 1) (omega (arith, le)) k) in
-    ap (λ s. s ++ offsets_behind (xs ++ ys) (i + 1) count) first ∙ ap (λ s. offset_text xs i ++ s) (offsets_before xs ys (i + 1) count (omega (arith, le)))
+    ap (λ s. s ++ offsets_between (xs ++ ys) (i + 1) count) first ∙ ap (λ s. offset_text xs i ++ s) (offsets_before xs ys (i + 1) count (omega (arith, le)))
 
-pub index_offsets-append : (xs ys : List (List ℕ)) → index_offsets (xs ++ ys) ≡ index_offsets xs ++ offsets_behind (xs ++ ys) (length xs) (length ys)
+pub index_offsets-append : (xs ys : List (List ℕ)) → index_offsets (xs ++ ys) ≡ index_offsets xs ++ offsets_between (xs ++ ys) (length xs) (length ys)
 unfolding index_offsets
 index_offsets-append xs ys =
     let f = offset_text (xs ++ ys) in
@@ -97,4 +95,47 @@ index_offsets-append xs ys =
     front n = omega arith
 
 pub offsets_grow : (xs ys : List (List ℕ)) → length (index_offsets xs) ≤ length (index_offsets (xs ++ ys))
-offsets_grow xs ys = omega (arith, ap length (index_offsets-append xs ys), length-append (index_offsets xs) (offsets_behind (xs ++ ys) (length xs) (length ys)))
+offsets_grow xs ys = omega (arith, ap length (index_offsets-append xs ys), length-append (index_offsets xs) (offsets_between (xs ++ ys) (length xs) (length ys)))
+
+-- ---- parts of the hash stream
+
+pub offsets_split : (records : List (List ℕ)) (from : ℕ) → from ≤ length records → index_offsets records ≡ index_offsets (take from records) ++ offsets_between records from (length records - from)
+offsets_split records from le =
+    let xs = take from records in
+    let ys = drop from records in
+    let whole : xs ++ ys ≡ records = take-append-drop from records in
+    let n : length xs ≡ from = length-take-le from records le in
+    let m : length ys ≡ length records - from = length-drop from records in
+    sym (ap index_offsets whole) ∙ index_offsets-append xs ys ∙ λ k. index_offsets xs ++ offsets_between (whole k) (n k) (m k)
+
+pub on_extended : {E : Type 0} (result : Result (Unit {0}) E) (records : List (List ℕ)) (from : ℕ) (old new : List ℕ) → from ≤ length records → old ≡ index_offsets (take from records)
+    → OnOk result (new ≡ old ++ offsets_between records from (length records - from)) → OnOk result (new ≡ index_offsets records)
+on_extended (Ok x) records from old new le before is = is ∙ ap (λ s. s ++ offsets_between records from (length records - from)) before ∙ sym (offsets_split records from le)
+on_extended (Err e) records from old new le before is = tt
+
+drop-hash_values : (buckets : ℕ) (records : List (List ℕ)) (k : ℕ) → drop (4 * k) (hash_values buckets records) ≡ hash_values buckets (drop k records)
+unfolding hash_values
+drop-hash_values buckets [] zero = refl
+drop-hash_values buckets [] (suc k) = drop_all (4 * suc k) [] (omega arith)
+drop-hash_values buckets (r ∷ records) zero = refl
+drop-hash_values buckets (r ∷ records) (suc k) =
+    let first = bucket_text buckets r in
+    let rest = flat_map (bucket_text buckets) records in
+    ap (λ n. drop n (first ++ rest)) (next k) ∙ drop-append-add first rest (4 * k) ∙ drop-hash_values buckets records k
+  where
+    next : (k : ℕ) → 4 * suc k ≡ length (bucket_text buckets r) + 4 * k
+    next k = omega arith
+
+pub rest_of_hash_text : (buckets : ℕ) (records : List (List ℕ)) (at : ℕ) → at % 4 ≡ 0 → at ≤ 4 * length records → drop at (hash_text records buckets) ≡ hash_values buckets (drop (at / 4) records) ++ index_offsets records
+rest_of_hash_text buckets records at whole le =
+    let n : at ≡ 4 * (at / 4) = omega (arith, div-add-mod' at 4, whole) in
+    drop-append-le at (hash_values buckets records) (index_offsets records) (omega (arith, le, length-hash_values buckets records))
+    ∙ ap (λ s. s ++ index_offsets records) (ap (λ m. drop m (hash_values buckets records)) n ∙ drop-hash_values buckets records (at / 4))
+
+-- all of it
+pub whole_hash_text : (buckets : ℕ) (records : List (List ℕ)) (text hashes : List ℕ) → hashes ≡ hash_values buckets records → text ≡ hashes ++ offsets_between records 0 (length records - 0) → text ≡ hash_text records buckets
+unfolding index_offsets
+whole_hash_text buckets records text hashes is all = all ∙ λ k. is k ++ offsets_between records 0 (none k)
+  where
+    none : length records - 0 ≡ length records
+    none = omega arith

@@ -1,10 +1,10 @@
 -- The hash stream, one record at a time.
-use Rattle.std.proofs.Common.{◌≡◌, ◌≤◌, ◌<◌, ◌+◌, ℕ, zero, suc, List, [], ◌∷◌, ◌++◌, Some, get_or, slice_get, length, take, refl, sym, ap, ◌∙◌, arith}
+use Rattle.std.proofs.Common.{◌≡◌, ◌≤◌, ◌<◌, ◌+◌, ◌-◌, ℕ, zero, suc, List, [], ◌∷◌, ◌++◌, Some, get_or, slice_get, length, take, drop, append_assoc, refl, sym, ap, ◌∙◌, arith}
 use Rattle.std.specs.Option.{unwrap_or}
-use Rattle.std.specs.List.{flat_map, range_with_len}
-use Rattle.std.proofs.lemmas.List.{length-append, take_more, flat_map_more}
+use Rattle.std.specs.List.{flat_map}
+use Rattle.std.proofs.lemmas.List.{append-nil, drop_all, drop_more, length-append, take_more}
 use Rattle.srv_edge.specs.Records.{joined}
-use Rattle.tpi_stream.specs.Hashes.{start_at}
+use Rattle.tpi_stream.specs.Hashes.{bucket_text, hash_values, offset_text, offsets_between, start_at}
 use Rattle.tpi_stream.proofs.RecordLists.{length-joined_push}
 
 -- a list up to the next place
@@ -14,8 +14,11 @@ get_is (suc i) [] x is = refl
 get_is zero (y ∷ xs) x is = ap (λ o. unwrap_or o x) is
 get_is (suc i) (y ∷ xs) x is = get_is i xs x is
 
-pub take_next : {A : Type 0} (i : ℕ) (xs : List A) (x : A) → slice_get xs i ≡ Some x → i < length xs → take (i + 1) xs ≡ take i xs ++ x ∷ []
+take_next : {A : Type 0} (i : ℕ) (xs : List A) (x : A) → slice_get xs i ≡ Some x → i < length xs → take (i + 1) xs ≡ take i xs ++ x ∷ []
 take_next i xs x is lt = take_more xs i x lt ∙ ap (λ y. take i xs ++ y ∷ []) (get_is i xs x is)
+
+drop_next : {A : Type 0} (i : ℕ) (xs : List A) (x : A) → slice_get xs i ≡ Some x → i < length xs → drop i xs ≡ x ∷ drop (i + 1) xs
+drop_next i xs x is lt = drop_more xs i x lt ∙ ap (λ y. y ∷ drop (i + 1) xs) (get_is i xs x is)
 
 -- where the next record begins
 pub start_next : (records : List (List ℕ)) (i : ℕ) (r : List ℕ) → slice_get records i ≡ Some r → i < length records → start_at records (i + 1) ≡ start_at records i + length r
@@ -28,18 +31,35 @@ start_most [] (suc i) = omega arith
 start_most (r ∷ records) zero = omega arith
 start_most (r ∷ records) (suc i) = omega (arith, start_most records i, length-append r (joined (take i records)), length-append r (joined records))
 
-next : (a n : ℕ) → a + 1 + n ≡ a + suc n
-next a n = omega arith
+-- ---- what is still to be put
 
-one_more : (n : ℕ) → suc n + 1 ≡ suc (n + 1)
-one_more n = omega arith
+-- the buckets of the record at a position, and of those behind it
+pub hashes_next : (buckets : ℕ) (records : List (List ℕ)) (i : ℕ) (r : List ℕ) → slice_get records i ≡ Some r → i < length records
+    → hash_values buckets (drop i records) ≡ bucket_text buckets r ++ hash_values buckets (drop (i + 1) records)
+unfolding hash_values
+hashes_next buckets records i r is lt = ap (flat_map (bucket_text buckets)) (drop_next i records r is lt)
 
-range_next : (a n : ℕ) → range_with_len a (n + 1) ≡ range_with_len a n ++ (a + n) ∷ []
-range_next a zero = ap (λ k. k ∷ []) (omega arith)
-range_next a (suc n) =
-    ap (λ (k : ℕ). range_with_len a k) (one_more n) ∙ ap (λ xs. a ∷ xs) (range_next (a + 1) n ∙ ap (λ (k : ℕ). range_with_len (a + 1) n ++ k ∷ []) (next a n))
+pub hashes_end : (buckets : ℕ) (records : List (List ℕ)) (i : ℕ) → length records ≤ i → hash_values buckets (drop i records) ≡ []
+unfolding hash_values
+hashes_end buckets records i le = ap (flat_map (bucket_text buckets)) (drop_all i records le)
 
--- what is put for the places below the next one
-pub put_next : {A : Type 0} (f : ℕ → List A) (old now : List A) (i : ℕ) → now ≡ old ++ flat_map f (range_with_len 0 i) → now ++ f i ≡ old ++ flat_map f (range_with_len 0 (i + 1))
-put_next f old now i is =
-    ap (λ xs. xs ++ f i) is ∙ flat_map_more f old (range_with_len 0 i) i ∙ ap (λ xs. old ++ flat_map f xs) (ap (λ k. range_with_len 0 i ++ k ∷ []) (omega arith) ∙ sym (range_next 0 i))
+-- the index offset of the record at a position, and of those behind it
+pub offsets_next : (records : List (List ℕ)) (i n : ℕ) → i < n → offsets_between records i (n - i) ≡ offset_text records i ++ offsets_between records (i + 1) (n - (i + 1))
+offsets_next records i n lt = ap (offsets_between records i) (count n lt)
+  where
+    count : (n : ℕ) → i < n → n - i ≡ suc (n - (i + 1))
+    count n lt = omega (arith, lt)
+
+pub offsets_end : (records : List (List ℕ)) (i n : ℕ) → n ≤ i → offsets_between records i (n - i) ≡ []
+offsets_end records i n le = ap (offsets_between records i) (none n le)
+  where
+    none : (n : ℕ) → n ≤ i → n - i ≡ 0
+    none n le = omega (arith, le)
+
+-- one piece is put, and the rest is still to be put
+pub put_one : (old all now piece rest left : List ℕ) → now ++ left ≡ old ++ all → left ≡ piece ++ rest → (now ++ piece) ++ rest ≡ old ++ all
+put_one old all now piece rest left so_far is = append_assoc now piece rest ∙ ap (λ s. now ++ s) (sym is) ∙ so_far
+
+-- nothing is left
+pub put_all : (old all now left : List ℕ) → now ++ left ≡ old ++ all → left ≡ [] → now ≡ old ++ all
+put_all old all now left so_far none = sym (append-nil now) ∙ ap (λ s. now ++ s) (sym none) ∙ so_far

@@ -29,8 +29,12 @@ offset_text records i = offset_between i (start_at records i) (start_at records 
 unfoldable pub hash_values : ℕ → List (List ℕ) → List ℕ
 hash_values buckets records = flat_map (bucket_text buckets) records
 
+-- of so many records from a position on
+abbrev pub offsets_between : List (List ℕ) → ℕ → ℕ → List ℕ
+offsets_between records i count = flat_map (offset_text records) (range_with_len i count)
+
 unfoldable pub index_offsets : List (List ℕ) → List ℕ
-index_offsets records = flat_map (offset_text records) (range_with_len 0 (length records))
+index_offsets records = offsets_between records 0 (length records)
 
 -- the buckets of all records, and then the index offsets
 abbrev pub hash_text : List (List ℕ) → ℕ → List ℕ

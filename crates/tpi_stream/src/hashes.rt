@@ -1,10 +1,10 @@
-ghost use Rattle.std.specs.Prelude.{◌≡◌, ◌≤◌, ◌<◌, ◌+◌, ◌^◌, ◌++◌, length, IfOk, OnOk};
+ghost use Rattle.std.specs.Prelude.{◌≡◌, ◌≤◌, ◌<◌, ◌+◌, ◌-◌, ◌*◌, ◌%◌, ◌^◌, ◌++◌, drop, length, take, IfOk, OnOk};
 ghost use Rattle.byteorder.specs.Endian.{little_bytes};
 ghost use Rattle.srv_edge.specs.Records.{joined};
-ghost use Rattle.tpi_stream.specs.declared.header.TheConstants.{FIRST_INDEX};
-ghost use Rattle.tpi_stream.specs.Hashes.{has_offset, hash_text, hash_values, index_offsets, offset_between};
+ghost use Rattle.tpi_stream.specs.declared.header.TheConstants.{FIRST_INDEX, KEY_BYTES};
+ghost use Rattle.tpi_stream.specs.Hashes.{has_offset, hash_text, hash_values, index_offsets, offset_between, offsets_between, start_at};
 
-use crate::header::FIRST_INDEX;
+use crate::header::{FIRST_INDEX, KEY_BYTES};
 use byteorder::{ByteOrder, LittleEndian};
 use srv_edge::{RecordList, word};
 use std::alloc::{AllocError, Global};
@@ -22,18 +22,66 @@ pub fn hash_text(alloc: Global, records: &RecordList, buckets: u32) -> Result<Ve
     // Each index offset but the first stands where a multiple of the step is passed.
     let most_offsets = records.joined().len() / OFFSET_STEP as usize + 1;
     let mut text = Vec::with_capacity(alloc, 4 * records.len() as usize + 8 * most_offsets)?;
-    put_hashes(&mut text, records, buckets)?;
-    put_offsets(&mut text, records)?;
+    put_hashes(&mut text, records, 0, buckets)?;
+    put_offsets(&mut text, records, 0, 0)?;
     Ok(text)
 }
 
-// The bucket of each record.
-fn put_hashes(text: &mut Vec<u8>, records: &RecordList, buckets: u32) -> Result<(), AllocError>
+/// The same text from a place of the buckets on, where the index offsets are at hand. No record of
+/// a bucket before that place is hashed.
+pub fn hash_text_from(
+    alloc: Global,
+    records: &RecordList,
+    buckets: u32,
+    offsets: &[u8],
+    at: u32,
+) -> Result<Vec<u8>, AllocError>
     requires some { 1 ≤ buckets }
     requires few { length records.now ≤ 2 ^ 23 }
-    ensures { OnOk result (text.new.items ≡ text.old.items ++ hash_values buckets records.now) }
+    requires offsets { offsets.now ≡ index_offsets records.now }
+    requires bucket { at % KEY_BYTES ≡ 0 }
+    requires inside { at ≤ KEY_BYTES * length records.now }
+    ensures { IfOk result (λ text. text.items ≡ drop at (hash_text records.now buckets)) }
 {
-    let mut i = 0;
+    let size = 4 * records.len() as usize - at as usize + offsets.len();
+    let mut text = Vec::with_capacity(alloc, size)?;
+    put_hashes(&mut text, records, at / KEY_BYTES, buckets)?;
+    text.extend_from_slice(offsets)?;
+    Ok(text)
+}
+
+/// Puts the index offsets of the records from a position on, of which the first begins at `start`,
+/// behind those of the records before.
+pub fn extend_offsets(
+    text: &mut Vec<u8>,
+    records: &RecordList,
+    from: u32,
+    start: u32,
+) -> Result<(), AllocError>
+    requires few { length records.now ≤ 2 ^ 23 }
+    requires from { from ≤ length records.now }
+    requires start { start ≡ start_at records.now from }
+    requires before { text.old.items ≡ index_offsets (take from records.now) }
+    ensures { OnOk result (text.new.items ≡ index_offsets records.now) }
+{
+    let _ = records.joined();
+    put_offsets(text, records, from, start)
+}
+
+// The bucket of each record from a position on.
+fn put_hashes(
+    text: &mut Vec<u8>,
+    records: &RecordList,
+    from: u32,
+    buckets: u32,
+) -> Result<(), AllocError>
+    requires some { 1 ≤ buckets }
+    requires few { length records.now ≤ 2 ^ 23 }
+    requires from { from ≤ length records.now }
+    ensures { OnOk result
+        (text.new.items ≡ text.old.items ++ hash_values buckets (drop from records.now)) }
+{
+    let mut i = from;
     while let Some(record) = records.get(i) {
         text.extend_from_slice(&word(of_record(record) % buckets))?;
         i += 1;
@@ -41,14 +89,23 @@ fn put_hashes(text: &mut Vec<u8>, records: &RecordList, buckets: u32) -> Result<
     Ok(())
 }
 
-// The index offset of each record that has one.
-fn put_offsets(text: &mut Vec<u8>, records: &RecordList) -> Result<(), AllocError>
+// The index offset of each record that has one, from a position on, of which the first begins at
+// `start`.
+fn put_offsets(
+    text: &mut Vec<u8>,
+    records: &RecordList,
+    from: u32,
+    start: u32,
+) -> Result<(), AllocError>
     requires few { length records.now ≤ 2 ^ 23 }
     requires short { length (joined records.now) < 2 ^ 32 }
-    ensures { OnOk result (text.new.items ≡ text.old.items ++ index_offsets records.now) }
+    requires from { from ≤ length records.now }
+    requires start { start ≡ start_at records.now from }
+    ensures { OnOk result (text.new.items ≡ text.old.items
+        ++ offsets_between records.now from (length records.now - from)) }
 {
-    let mut i = 0;
-    let mut start = 0;
+    let mut i = from;
+    let mut start = start;
     while let Some(record) = records.get(i) {
         let end = start + record.len() as u32;
         put_offset(text, i, start, end)?;

@@ -24,3 +24,8 @@ pub mod Opened
 pub mod Short
 pub mod ReadSizes
 pub mod Planning
+pub mod Turning
+pub mod Building
+pub mod Preparing
+pub mod Created
+pub mod Missing

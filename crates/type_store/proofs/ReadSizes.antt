@@ -9,12 +9,13 @@ use Rattle.std.proofs.lemmas.Nat.{mul-le}
 use Rattle.std.proofs.Math.Nat.{div-mul-le_self}
 use Rattle.msf_blocks.specs.declared.superblock.Super.{Super}
 use Rattle.msf_blocks.specs.Blocks.{IsBlockSize, blocks_of_size}
+use Rattle.msf_blocks.specs.Superblock.{IsSuper}
 use Rattle.msf_blocks.proofs.Sizes.{sized}
-use Rattle.stream_directory.specs.Directory.{AreSized, IsSized, StreamBlocks, absent_size, blocks_in, size_field, skipped_count}
+use Rattle.stream_directory.specs.Directory.{AreSized, IsSized, Spells, StreamBlocks, absent_size, blocks_in, size_field, skipped_count}
 use Rattle.stream_directory.proofs.Streams.{length-words}
 use Rattle.msf_image.specs.declared.image.Image.{Image}
 use Rattle.msf_image.specs.Reads.{block_bytes, bytes_of_blocks, directory_blocks}
-use Rattle.msf_image.specs.Relation.{Reads, stream_in, used_in}
+use Rattle.msf_image.specs.Relation.{Reads, directory_in, stream_in, used_in}
 use Rattle.msf_image.proofs.Joining.{block_inside}
 use Rattle.msf_image.proofs.Laying.{whole_blocks}
 use Rattle.cow_streams.proofs.Joined.{length-joined}
@@ -100,21 +101,26 @@ skipped_blocks size (Some s ∷ streams) are =
     let there : skipped_count size (map size_field (Some s ∷ streams)) ≡ blocks_of_size size s.size = ap (λ t. cond t 0 (blocks_of_size size s.size)) (ne_eqb s.size absent_size (λ e. let short = are.0.0 in omega (arith, e, short))) in
     omega (arith, length-append s.blocks (flat_map blocks_in streams), blocks_sized size streams are.1, sum_by-cons (block_count size) (Some s.size) (sizes_in streams), none, there)
 
-pub directory_read : (file : List ℕ) (limit : ℕ) (image : Image) (streams : List (Option (List ℕ))) → Reads file limit image streams → bytes_for image.head.block (sizes_in image.directory) ≤ 2 ^ 28
-directory_read file limit image streams is =
+pub directory_spelled : (image : Image) (bytes : List ℕ) → IsSuper image.head → AreSized image.head.block image.directory → Spells image.head.block bytes image.directory → length bytes ≤ image.head.dir_bytes
+    → bytes_for image.head.block (sizes_in image.directory) ≤ 2 ^ 28
+directory_spelled image bytes head sized_streams is short =
     let size = image.head.block in
     let d = image.directory in
-    let bytes = bytes_of_blocks size file (directory_blocks file image.head) in
     let sizes = map size_field d in
-    let rest = is.spelled.skipped ++ flat_map blocks_in d in
-    let text = ap (λ (xs : List ℕ). length xs) is.spelled.text ∙ length-words (length d ∷ (sizes ++ rest)) in
+    let rest = is.skipped ++ flat_map blocks_in d in
+    let text = ap (λ (xs : List ℕ). length xs) is.text ∙ length-words (length d ∷ (sizes ++ rest)) in
     let numbers = length-append sizes rest in
-    let skipped = length-append is.spelled.skipped (flat_map blocks_in d) in
-    let cut = length-take image.head.dir_bytes bytes in
-    let most = is.head.most_dir_bytes in
-    let large = (sized size is.head.block).most in
+    let skipped = length-append is.skipped (flat_map blocks_in d) in
+    let most = head.most_dir_bytes in
+    let large = (sized size head.block).most in
     let square = mul-le size size 32768 32768 large large in
-    omega (arith, text, numbers, length-map d size_field, skipped, is.spelled.count, skipped_blocks size d is.sized, length-map d (option_map (λ (s : StreamBlocks). s.size)), cut, most, square, div-mul-le_self (size * size) 4)
+    omega (arith, text, numbers, length-map d size_field, skipped, is.count, skipped_blocks size d sized_streams, length-map d (option_map (λ (s : StreamBlocks). s.size)), short, most, square, div-mul-le_self (size * size) 4)
+
+pub directory_read : (file : List ℕ) (limit : ℕ) (image : Image) (streams : List (Option (List ℕ))) → Reads file limit image streams → bytes_for image.head.block (sizes_in image.directory) ≤ 2 ^ 28
+directory_read file limit image streams is =
+    let bytes = bytes_of_blocks image.head.block file (directory_blocks file image.head) in
+    let cut = length-take image.head.dir_bytes bytes in
+    directory_spelled image (directory_in file image.head) is.head is.sized is.spelled (omega (arith, cut))
 
 -- ---- the streams that a commit writes
 

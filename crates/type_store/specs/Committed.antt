@@ -1,11 +1,14 @@
 -- The contents that commits leave, said over those that were opened or created.
 use Rattle.std.specs.Prelude.{◌≡◌, ◌≤◌, ℕ, ◌==◌, Bool, true, false, List, [], ◌∷◌, length, drop, Some, Ok}
 use Rattle.std.specs.List.{list_any}
+use Rattle.srv_edge.specs.Records.{joined}
+use Rattle.srv_edge.specs.declared.limit.TheConstants.{MOST_BYTES, MOST_RECORDS}
 use Rattle.table_model.specs.Bounds.{Bounds}
 use Rattle.msf_blocks.specs.Edit.{StreamEdit}
 use Rattle.cow_streams.specs.Edits.{edited}
-use Rattle.table_model.specs.Extends.{Extends}
+use Rattle.table_model.specs.Extends.{Extends, StartsWith}
 use Rattle.table_model.specs.Tables.{Tables}
+use Rattle.type_store.specs.Commit.{Extent, RecordExtent, extent_of, record_extent}
 use Rattle.type_store.specs.Holds.{Contents, Held, content_at, holding, tables_of}
 use Rattle.type_store.specs.Written.{IsWritten, KeptNumbers, numbers_of}
 
@@ -38,6 +41,25 @@ pub record HoldsTables (limits : Bounds) (kept : KeptNumbers) (info : List ℕ) 
 pub record GoesOn (old new : Tables) : Type 0 where
   pub extends : Extends old new
   pub version : new.names.version ≡ old.names.version
+
+-- an extent is that of records with which others go on
+pub record RecordsGoOn (old : RecordExtent) (records : List (List ℕ)) : Type 0 where
+  pub before : List (List ℕ)
+  pub is : old ≡ record_extent before
+  pub starts : StartsWith before records
+
+-- records that go on from others, within the limits of all tables
+pub record RecordsChange (old new : RecordExtent) (records : List (List ℕ)) : Type 0 where
+  pub base : RecordsGoOn old records
+  pub is : new ≡ record_extent records
+  pub few : length records ≤ MOST_RECORDS
+  pub short : length (joined records) ≤ MOST_BYTES
+
+-- an extent is that of tables with which others go on
+pub record BuildsOn (old : Extent) (tables : Tables) : Type 0 where
+  pub before : Tables
+  pub is : old ≡ extent_of old.fresh before
+  pub on : GoesOn before tables
 
 -- Contents on which a commit may be built, by whether they are fresh: those that were opened, with the tables that they hold;
 -- or those that commits left over them.

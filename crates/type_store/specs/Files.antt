@@ -1,5 +1,5 @@
 -- A file as it stands between the calls of its committer.
-use Rattle.std.specs.Prelude.{◌≡◌, ◌≤◌, ◌<◌, ◌⊎◌, ◌+◌, ◌-◌, ◌*◌, ◌/◌, ◌^◌, ℕ, Bool, IsTrue, List, length, Option, None, Some, Ok}
+use Rattle.std.specs.Prelude.{◌≡◌, ◌≤◌, ◌<◌, ◌⊎◌, ◌+◌, ◌-◌, ◌*◌, ◌/◌, ◌^◌, ℕ, Bool, false, IsTrue, List, length, Option, None, Some, Ok}
 use Rattle.stream_directory.specs.Directory.{absent_size}
 use Rattle.msf_image.specs.declared.image.Image.{Image}
 use Rattle.msf_image.specs.Reads.{read_file}
@@ -20,7 +20,7 @@ use Rattle.type_store.specs.Commits.{Holds, HoldsOne, contents_of, cut_told, hel
 use Rattle.type_store.specs.Committed.{GoesOn, HoldsTables, IsBase, IsCommitted}
 use Rattle.type_store.specs.Planning.{IsBaseImage, IsWrittenImage}
 use Rattle.type_store.specs.Holds.{Held, content_at}
-use Rattle.type_store.specs.Shape.{HaveRoom, MayNeed, Shape, directory_bytes, shape_of}
+use Rattle.type_store.specs.Shape.{HaveRoom, MayNeed, Shape, bytes_for, directory_bytes, shape_of}
 use Rattle.type_store.specs.Written.{AreWithin, CanKeep, KeptNumbers, numbers_of}
 
 -- a commit that is ready to be written: its cut, and what is written for it
@@ -28,15 +28,21 @@ pub record Pending : Type 0 where
   pub cut : Cut
   pub plan : Planned
 
+-- a commit that has begun, and whether its image is as it was opened or created
+pub record Begun : Type 0 where
+  pub cut : Cut
+  pub fresh : Bool
+
 -- A file: its device; what that gave when it was opened, or once it was created; its bounds; the numbers on which the size of
--- its directory rests; the image on which the next commit builds; the commits that a crash may leave; the last number that a
--- commit took; and the commit that is ready to be written.
+-- its directory rests; the image on which the next commit builds, and whether it is as it was opened or created; the commits
+-- that a crash may leave; the last number that a commit took; and the commit that is ready to be written.
 pub record FileView (D : Type 0) : Type 0 where
   pub device : D
   pub opened : List ℕ
   pub bounds : Bounds
   pub shape : Shape
   pub image : Image
+  pub fresh : Bool
   pub file : File
   pub last : ℕ
   pub ready : Option Pending
@@ -79,6 +85,7 @@ pub record IsOrigin (tells : Bool) (o : Origin) : Type 0 where
   pub short : length o.info < absent_size
   pub shape : o.shape ≡ shape_of o.image.head.block o.shape.blocks o.shape.sizes o.kept
   pub room : HaveRoom o.kept o.info o.first.tables o.shape.sizes
+  pub directory : bytes_for o.shape.block o.shape.sizes ≤ 2 ^ 28
   pub read : IsTrue tells → read_file o.opened o.bounds.blocks ≡ Ok o.image
   pub holds : IsTrue tells → HoldsTables o.bounds o.kept o.info o.first.number o.first.tables (contents_of o.opened o.image)
 
@@ -132,6 +139,18 @@ MayShow file new cut = MayLeave file cut ⊎ (cut ≡ new)
 -- written, the newest alone; from the superblock on, the newest or the new one.
 abbrev pub FailsTo : File → Cut → File → Type 0
 FailsTo old new file = (file ≡ old) ⊎ ((file ≡ resolution old) ⊎ (file ≡ doubt (newest_cut old) new))
+
+-- The next commit builds on what it did, or on the image that was planned.
+abbrev pub KeepsBase : {D : Type 0} → FileView D → FileView D → Type 0
+KeepsBase v w = (w.image ≡ v.image) × (w.fresh ≡ v.fresh)
+
+abbrev pub TakesBase : {D : Type 0} → Pending → FileView D → Type 0
+TakesBase p w = (w.image ≡ p.plan.image) × (w.fresh ≡ false)
+
+-- The same behind a commit that failed: from the superblock on it is the image that was planned.
+abbrev pub FailsOn : {D : Type 0} → FileView D → Pending → FileView D → Type 0
+FailsOn v p w =
+    (((w.file ≡ v.file) ⊎ (w.file ≡ resolution v.file)) × KeepsBase v w) ⊎ ((w.file ≡ doubt (newest_cut v.file) p.cut) × TakesBase p w)
 
 -- ---- a commit and what stays behind it
 

@@ -5,16 +5,15 @@ use Rattle.table_model.specs.Bounds.{bounds_of}
 use Rattle.table_model.specs.Cut.{Cut}
 use Rattle.table_model.specs.File.{File, doubt, settled}
 use Rattle.std.specs.declared.snapshot.Snapshot.{Snapshot}
-use Rattle.type_store.specs.declared.file.CommitCut as program_cut
 use Rattle.type_store.specs.declared.file.Origin as program
-use Rattle.type_store.specs.Files.{Origin, Pending, cut_of}
+use Rattle.type_store.specs.Files.{Begun, Origin, Pending, cut_of}
 use Rattle.type_store.specs.Shape.{shape_of, sizes_in}
 use Rattle.type_store.specs.Views.{tables_in}
 
-abbrev pub cut_in : program_cut.CommitCut → Cut
-cut_in c = cut_of c.number (tables_in c.tables.value)
+abbrev pub cut_in : Begun → Cut
+cut_in b = b.cut
 
-abbrev pub cuts_of : Option program_cut.CommitCut → program_cut.CommitCut → File
+abbrev pub cuts_of : Option Begun → Begun → File
 cuts_of None newest = settled (cut_in newest)
 cuts_of (Some before) newest = doubt (cut_in before) (cut_in newest)
 
@@ -24,7 +23,7 @@ origin_of seen o = record {
   kept = o.kept;
   info = o.info.items;
   first = cut_of o.number (tables_in o.tables.value);
-  opened = seen o.device.value;
+  opened = seen o.store.value.device;
   image = o.image.value;
   shape = shape_of o.image.value.head.block o.image.value.head.blocks (sizes_in o.image.value.directory) o.kept;
 }

@@ -5,6 +5,7 @@ pub mod Opening
 pub mod Views
 pub mod Files
 pub mod Inside
+pub mod Writing
 pub mod Opened
 pub mod Written
 pub mod NewFile
@@ -12,3 +13,5 @@ pub mod Commit
 pub mod Committed
 pub mod Shape
 pub mod Planning
+pub mod Preparing
+pub mod Sharing

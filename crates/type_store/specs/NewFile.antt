@@ -16,10 +16,12 @@ abbrev pub new_numbers : KeptNumbers
 new_numbers = record { types = new_kept 5; items = new_kept 6; names_stream = 7 }
 
 -- The eight streams: the PDB stream is 1, the types are 2 and the items 4, both hash streams are 5 and 6, and the names are 7.
+abbrev pub contents_with : List ℕ → List ℕ → Contents
+contents_with info names =
+    Some [] ∷ Some info ∷ Some (record_stream_text (new_kept 5) []) ∷ Some [] ∷ Some (record_stream_text (new_kept 6) []) ∷ Some [] ∷ Some [] ∷ Some names ∷ []
+
 abbrev pub new_contents : List ℕ → ℕ → Contents
-new_contents guid signature =
-    Some [] ∷ Some (new_info guid signature) ∷ Some (record_stream_text (new_kept 5) []) ∷ Some [] ∷ Some (record_stream_text (new_kept 6) []) ∷ Some [] ∷ Some []
-    ∷ Some (names_text 1 []) ∷ []
+new_contents guid signature = contents_with (new_info guid signature) (names_text 1 [])
 
 -- other bytes in place of those from a place on
 abbrev pub replaced : ℕ → List ℕ → List ℕ → List ℕ

@@ -1,6 +1,7 @@
 -- What an opening answers.
-use Rattle.std.specs.Prelude.{◌≡◌, ◌<◌, ◌^◌, ℕ, List, None, Result, Ok, Err, IfSome}
+use Rattle.std.specs.Prelude.{◌≡◌, ◌<◌, ◌^◌, ℕ, true, List, None, Result, Ok, Err, IfSome}
 use Rattle.msf_image.specs.declared.fault.OpenFault.{OpenFault}
+use Rattle.msf_image.specs.declared.image.Image.{Image}
 use Rattle.msf_image.specs.Faults.{damage_in}
 use Rattle.msf_image.specs.Reads.{read_file}
 use Rattle.table_model.specs.Bounds.{Bounds}
@@ -9,8 +10,9 @@ use Rattle.table_model.specs.Tables.{Tables}
 use Rattle.type_store.specs.declared.tables.Tables as program
 use Rattle.type_store.specs.Commits.{Holds, held_in}
 use Rattle.type_store.specs.Files.{FileView, cut_of}
-use Rattle.type_store.specs.Shape.{shape_of, sizes_in}
-use Rattle.type_store.specs.Written.{AreWithin, KeptNumbers}
+use Rattle.type_store.specs.Holds.{Held}
+use Rattle.type_store.specs.Shape.{Shape, shape_of, sizes_in}
+use Rattle.type_store.specs.Written.{AreWithin, KeptNumbers, numbers_of}
 
 -- the device in what an opening answers
 abbrev pub device_in : {D : Type 0} → Result (FileView D × program.Tables) (OpenFault × D) → D
@@ -27,8 +29,17 @@ pub record IsOpened {D : Type 0} (bounds : Bounds) (seen : List ℕ) (v : FileVi
   pub small : v.last < 2 ^ 32
   pub file : v.file ≡ settled (cut_of v.last tables)
   pub none_ready : v.ready ≡ None
+  pub fresh : v.fresh ≡ true
   pub opened : v.opened ≡ seen
   pub bounds_are : v.bounds ≡ bounds
   pub within : AreWithin bounds tables
   pub kept : KeptNumbers
   pub shape : v.shape ≡ shape_of v.image.head.block v.image.head.blocks (sizes_in v.image.directory) kept
+
+-- the shape of the file that these bytes are, by its image and by what it holds
+pub record HasShape (bounds : Bounds) (seen : List ℕ) (shape : Shape) : Type 0 where
+  pub image : Image
+  pub read : read_file seen bounds.blocks ≡ Ok image
+  pub held : Held
+  pub holds : held_in bounds seen ≡ Ok held
+  pub is : shape ≡ shape_of image.head.block image.head.blocks (sizes_in image.directory) (numbers_of held)

@@ -1,8 +1,11 @@
 //! Laws of what a commit of tables writes.
 
-ghost use Rattle.std.specs.Prelude.{◌≡◌, ◌≤◌, ◌<◌, ◌^◌, ℕ, Bool, List, Ok, length, drop};
+ghost use Rattle.std.specs.Prelude.{◌≡◌, ◌≤◌, ◌<◌, ◌+◌, ◌^◌, ℕ, Bool, false, List, Ok, length, drop};
 ghost use Rattle.info_stream.specs.Text.{new_info, with_age};
 ghost use Rattle.srv_edge.specs.declared.failed.Limits.{Limits};
+ghost use Rattle.srv_edge.specs.Records.{joined};
+ghost use Rattle.stream_directory.specs.Directory.{stream_at};
+ghost use Rattle.tpi_stream.specs.declared.header.TheConstants.{HEADER_BYTES};
 ghost use Rattle.table_model.specs.Bounds.{Bounds, bounds_of};
 ghost use Rattle.msf_blocks.specs.Blocks.{IsBlockSize};
 ghost use Rattle.msf_image.specs.declared.image.Image.{Image};
@@ -17,6 +20,7 @@ ghost use Rattle.type_store.specs.Holds.{Contents, Held, holding, tables_of};
 ghost use Rattle.type_store.specs.NewFile.{new_contents, new_numbers};
 ghost use Rattle.type_store.specs.Planning.{Commit, IsWrittenImage, MayCommit, edits_of};
 ghost use Rattle.type_store.specs.Shape.{HaveRoom, MayNeed, Shape, bytes_for, directory_bytes, shape_of, size_at, sizes_in, sizes_of, written_sizes};
+ghost use Rattle.type_store.specs.Sharing.{KeepsInner, Shares};
 ghost use Rattle.type_store.specs.Written.{AreWithin, CanKeep, HaveBytes, KeptNumbers, numbers_of};
 
 use crate::laws::{held_numbers_can_be_kept, new_file_is_written, written_tables_are_held};
@@ -66,7 +70,8 @@ pub fn commits_write_tables()
 
 /// A law: the edits of a commit may be planned, and their plan needs a directory that is just that
 /// of a file which is written for the tables, and no more blocks than the shape of the opened file
-/// and the tables tell. On the image that is planned the next commit may be built.
+/// and the tables tell. On the image that is planned the next commit may be built. It shares with
+/// the old image all blocks of streams but those that the commit must write.
 pub fn commits_can_be_planned()
     ensures edits { (c : Commit) (image : Image) → MayCommit c image
         → AreEdits image.head.block image.directory (edits_of c image.head.block) }
@@ -82,6 +87,22 @@ pub fn commits_can_be_planned()
         → p ≡ planned image (edits_of c image.head.block)
         → IsPlan limit image (edits_of c image.head.block) p
         → IsWrittenImage c.shape c.tables p.image }
+    ensures shares { (c : Commit) (limit : ℕ) (image : Image) (p : Planned) → MayCommit c image
+        → IsPlan limit image (edits_of c image.head.block) p
+        → Shares c.shape c.fresh c.old c.tables image p.image }
+{}
+
+/// A law: of the streams of types and of items a commit behind the first gives other numbers to at
+/// most two old blocks, the first and that of the old end.
+pub fn commits_keep_old_records()
+    ensures types { (c : Commit) (image new : Image) → MayCommit c image
+        → Shares c.shape false c.old c.tables image new
+        → KeepsInner c.shape.block (HEADER_BYTES + length (joined c.old.types.records))
+        (stream_at image.directory 2) (stream_at new.directory 2) }
+    ensures items { (c : Commit) (image new : Image) → MayCommit c image
+        → Shares c.shape false c.old c.tables image new
+        → KeepsInner c.shape.block (HEADER_BYTES + length (joined c.old.items.records))
+        (stream_at image.directory 4) (stream_at new.directory 4) }
 {}
 
 /// A law: the directory of a file has the sizes of the contents that the file reads as, but for

@@ -1,11 +1,12 @@
 //! The streams of a file that is opened, each judged before the next is read.
 
-ghost use Rattle.std.specs.Prelude.{◌≡◌, ◌≤◌, length, IsTrue, IfSome, IfOk, IfErr, IsErrOf, Err, Some};
+ghost use Rattle.std.specs.Prelude.{◌≡◌, ◌≤◌, true, length, IsTrue, IfSome, IfOk, IfErr, IsErrOf, Err, Some};
 ghost use Rattle.srv_edge.specs.Count.{HasCause};
 ghost use Rattle.msf_blocks.specs.Judging.{Tells, told_by};
 ghost use Rattle.msf_image.specs.Faults.{damage_in};
 ghost use Rattle.committer.specs.Stored.{IsSettledFile, newest};
 ghost use Rattle.table_model.specs.Bounds.{bounded_table, bounds_of};
+ghost use Rattle.type_store.specs.Commit.{extent_of};
 ghost use Rattle.type_store.specs.Commits.{contents_of};
 ghost use Rattle.tpi_stream.specs.Reading as records;
 ghost use Rattle.names_table.specs.Names.{IsNamesTable};
@@ -16,7 +17,9 @@ ghost use Rattle.type_store.specs.Holds.{content_at, holding, info_in, names_hel
 ghost use Rattle.type_store.specs.Views.{tables_in};
 ghost use Rattle.type_store.specs.Opening.{AreInStream, AreRead, AreStreams, HasInfo, HasNames, HasRecords, OnlyReadsStore, names_told, records_told};
 
+use crate::base::Base;
 use crate::content::{is_apart, read_content};
+use crate::cut::CutRef;
 use crate::fault::{absent_damage, hash_damage, info_fault, names_fault, record_fault};
 use crate::tables::{KeptNumbers, Tables};
 use committer::Store;
@@ -237,6 +240,7 @@ pub(crate) struct Streams {
     pub age: u32,
     pub kept: KeptNumbers,
     pub tables: Tables,
+    pub base: Base,
 }
 
 /// The streams of a file, in the order of their tests.
@@ -254,6 +258,7 @@ pub(crate) fn read_streams<D: Device>(
     ensures damage { IsTrue D.tells → IfErr result (λ e. IfSome (damage_in e) (λ damage. holding
         (bounds_of limits) (contents_of (D.seen store.old.device) (newest store.old.file))
         ≡ Err damage)) }
+    ensures base { IfOk result (λ s. s.base ≡ extent_of true (tables_in s.tables)) }
     ensures read { IfOk result (λ s. AreStreams (bounds_of limits)
         (newest store.old.file).directory s.kept s.info.items s.age (tables_in s.tables)) }
     ensures only_reads { OnlyReadsStore D.Device store.old store.new }
@@ -266,6 +271,7 @@ pub(crate) fn read_streams<D: Device>(
     let (item_header, items) = read_table(alloc, store, limits, Space::Items, &[type_hashes])?;
     let hashes = [type_hashes, u32::from(item_header.hash_stream)];
     let names = read_name_table(alloc, keys, store, limits, &hashes, info.names_stream)?;
+    let base = Base::opened(alloc, &CutRef::new(info.age, &types, &items, &names))?;
     Ok(Streams {
         info: info.bytes,
         age: info.age,
@@ -279,5 +285,6 @@ pub(crate) fn read_streams<D: Device>(
             items,
             names,
         },
+        base,
     })
 }

@@ -7,6 +7,7 @@ use Rattle.msf_blocks.proofs.Judging.{told_on}
 use Rattle.msf_image.specs.Faults.{damage_in}
 use Rattle.msf_image.specs.Reads.{used_blocks, with_free}
 use Rattle.msf_image.proofs.Directories.{done}
+use Rattle.msf_image.proofs.Moments.{only_reads_on}
 use Rattle.msf_image.proofs.Opening.{at_free, at_listed, at_streams, at_superblock, whole_judged}
 use Rattle.msf_image.proofs.Relating.{opened}
 use Rattle.msf_image.proofs.open.open_image.Goals as goal
@@ -45,3 +46,15 @@ returns-clause-whole g c =
     let directory = subst (λ l. IsDirectory c.in_ok-head.head l c.in_ok-directory.directory) c.deref.ensures.value c.in_ok-directory.ensures.found in
     let none_free = subst (λ l. OnOk c.judge_used.result (All (λ b. is_free c.in_ok-free.free b ≡ false) (used_blocks l c.in_ok-directory.directory))) c.deref-2.ensures.value c.judge_used.ensures.none_free in
     whole_judged c.judge_used.result image _ c.in_ok-head.ensures.passes listed.block_map listed.count listed.usable directory free.blocks free.inside free.unreserved free.rising c.judge_used.ensures.same none_free
+
+pub returns-in_err-free-clause-only_reads : goal.returns-in_err-free-clause-only_reads
+returns-in_err-free-clause-only_reads g c =
+    let counts = g.met.D.Device.counts_now in
+    let front = only_reads_on g.D.Device counts _ _ _ c.in_ok-head.ensures.only_reads c.in_ok-listed.ensures.only_reads in
+    only_reads_on g.D.Device counts _ _ _ (only_reads_on g.D.Device counts _ _ _ front c.in_ok-directory.ensures.only_reads) c.in_err-free.ensures.only_reads
+
+pub returns-clause-only_reads : goal.returns-clause-only_reads
+returns-clause-only_reads g c =
+    let counts = g.met.D.Device.counts_now in
+    let front = only_reads_on g.D.Device counts _ _ _ c.in_ok-head.ensures.only_reads c.in_ok-listed.ensures.only_reads in
+    only_reads_on g.D.Device counts _ _ _ (only_reads_on g.D.Device counts _ _ _ front c.in_ok-directory.ensures.only_reads) c.in_ok-free.ensures.only_reads

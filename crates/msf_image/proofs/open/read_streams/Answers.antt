@@ -1,4 +1,5 @@
-use Rattle.std.proofs.Common.{ap, ◌∙◌, take}
+use Rattle.std.proofs.Common.{ap, ◌∙◌, take, arith}
+use Rattle.std.proofs.lemmas.List.{length-take}
 use Rattle.msf_image.proofs.Directories.{streams_err, streams_ok}
 use Rattle.msf_image.proofs.open.read_streams.Goals as goal
 
@@ -9,3 +10,10 @@ returns-in_err-read_directory_behind-clause-reads g c = λ tells.
 pub returns-clause-reads : goal.returns-clause-reads
 returns-clause-reads g c = λ tells.
     streams_ok c.args.head.now _ c.args.listed.now _ _ (ap (take c.args.head.now.dir_bytes) (c.deref.ensures.value ∙ c.in_ok-bytes.ensures.bytes tells)) c.in_ok-read_directory_behind.ensures.exact
+
+pub returns-clause-short : goal.returns-clause-short
+returns-clause-short g c = record {
+  text = _;
+  spelled = c.in_ok-read_directory_behind.ensures.spelled;
+  short = omega (arith, length-take c.args.head.now.dir_bytes c.deref.result.now);
+}

@@ -1,24 +1,31 @@
-use Rattle.std.proofs.Common.{◌≡◌, ◌%◌, refl, ◌++◌, take, sym, ap, ◌∙◌, arith}
-use Rattle.std.proofs.lemmas.List.{append-nil, flat_map_more}
+use Rattle.std.proofs.Common.{◌≡◌, ◌≤◌, ◌+◌, ◌%◌, ◌++◌, length, drop, refl, ap, ◌∙◌, arith}
 use Rattle.byteorder.specs.Endian.{little_bytes}
 use Rattle.srv_edge.specs.Frames.{word_bytes}
 use Rattle.tpi_stream.specs.Hashes.{bucket_text, hash_values}
-use Rattle.tpi_stream.proofs.Offsets.{take_next}
+use Rattle.tpi_stream.proofs.Offsets.{hashes_end, hashes_next, put_all, put_one}
 use Rattle.tpi_stream.proofs.hashes.put_hashes.Goals as goal
 
 pub loop-record-init : goal.loop-record-init
-unfolding hash_values
-loop-record-init c = (sym (append-nil c.args.text.now.items), omega arith)
+loop-record-init c = (refl, c.requires.from)
 
 pub loop-record-preserved : goal.loop-record-preserved
-unfolding hash_values word_bytes
+unfolding word_bytes
 loop-record-preserved c =
     let records = c.args.records.now in
+    let buckets = c.args.buckets in
     let i = c.loop-record.i in
     let r = c.in-Some.record.now in
-    let put : c.extend_from_slice.new.self.items ≡ c.loop-record.text.items ++ bucket_text c.args.buckets r =
-    c.in_ok-extend_from_slice.ensures.items ∙ ap (λ xs. c.loop-record.text.items ++ xs) (c.word.ensures ∙ ap (λ h. little_bytes 4 (h % c.args.buckets)) c.of_record.ensures) in (
-      put ∙ ap (λ xs. xs ++ bucket_text c.args.buckets r) c.loop-record.invariant.0 ∙ flat_map_more (bucket_text c.args.buckets) c.args.text.now.items (take i records) r
-          ∙ ap (λ xs. c.args.text.now.items ++ hash_values c.args.buckets xs) (sym (take_next i records r c.in-Some.ensures.record (c.in-Some.ensures.some.0 refl))),
-      omega (arith, c.in-Some.ensures.some.0 refl),
-    )
+    let now = c.loop-record.text.items in
+    let lt = c.in-Some.ensures.some.0 refl in
+    let put : c.extend_from_slice.new.self.items ≡ now ++ bucket_text buckets r = c.in_ok-extend_from_slice.ensures.items ∙ ap (λ xs. now ++ xs) (c.word.ensures ∙ ap (λ h. little_bytes 4 (h % buckets)) c.of_record.ensures) in
+    let rest = hash_values buckets (drop (i + 1) records) in
+    let one = put_one c.args.text.now.items (hash_values buckets (drop c.args.from records)) now (bucket_text buckets r) rest (hash_values buckets (drop i records)) c.loop-record.invariant.0
+    (hashes_next buckets records i r c.in-Some.ensures.record lt) in
+    (ap (λ xs. xs ++ rest) put ∙ one, omega (arith, lt))
+
+pub returns : goal.returns
+returns c =
+    let records = c.args.records.now in
+    let i = c.loop-record.i in
+    let end : length records ≤ i = grind (arith, c.in_default.ensures.some.1) in
+    put_all c.args.text.now.items (hash_values c.args.buckets (drop c.args.from records)) c.loop-record.text.items (hash_values c.args.buckets (drop i records)) c.loop-record.invariant.0 (hashes_end c.args.buckets records i end)

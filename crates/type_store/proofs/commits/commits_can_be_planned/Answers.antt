@@ -1,4 +1,5 @@
 use Rattle.type_store.proofs.Short.{directory_short}
+use Rattle.type_store.proofs.Missing.{commit_shares}
 use Rattle.type_store.proofs.Planning.{may_blocks, may_directory, may_edit, may_go_on}
 use Rattle.type_store.proofs.commits.commits_can_be_planned.Goals as goal
 
@@ -16,3 +17,6 @@ returns-clause-blocks c = λ commit image needed may is more. may_blocks commit 
 
 pub returns-clause-next : goal.returns-clause-next
 returns-clause-next c = λ commit limit image p may is plan. may_go_on commit limit image p may is plan
+
+pub returns-clause-shares : goal.returns-clause-shares
+returns-clause-shares c = λ commit limit image p may plan. commit_shares commit limit image p may plan

@@ -37,6 +37,12 @@ returns-in_err-names-clause-only_reads g c =
     reads_on g.D.Device counts _ _ _ (reads_on g.D.Device counts _ _ _ (reads_on g.D.Device counts _ _ _ c.in_ok-info.ensures.only_reads c.in_ok-type_header.ensures.only_reads) c.in_ok-item_header.ensures.only_reads)
     c.in_err-names.ensures.only_reads
 
+pub returns-in_err-base-clause-only_reads : goal.returns-in_err-base-clause-only_reads
+returns-in_err-base-clause-only_reads g c =
+    let counts = g.met.D.Device.counts_now in
+    reads_on g.D.Device counts _ _ _ (reads_on g.D.Device counts _ _ _ (reads_on g.D.Device counts _ _ _ c.in_ok-info.ensures.only_reads c.in_ok-type_header.ensures.only_reads) c.in_ok-item_header.ensures.only_reads)
+    c.in_ok-names.ensures.only_reads
+
 pub returns-clause-only_reads : goal.returns-clause-only_reads
 returns-clause-only_reads g c =
     let counts = g.met.D.Device.counts_now in

@@ -6,7 +6,7 @@ use Rattle.msf_image.specs.Reads.{IsWhole}
 use Rattle.msf_image.specs.Relation.{contents_in}
 use Rattle.committer.specs.Left.{IsOnNewest, IsUnchanged}
 use Rattle.committer.specs.Stored.{IsSettled, Shows, change_in, Stored, base_of, file_of, newest, settled}
-use Rattle.committer.proofs.Changing.{doubt_shows, doubt_stays, doubt_turns, held, new_settled, on_err}
+use Rattle.committer.proofs.Changing.{doubt_shows, doubt_stays, doubt_turns, held, new_settled, on_err, told_turning}
 use Rattle.committer.proofs.Storing.{newest_is, newest_limited, newest_whole}
 use Rattle.committer.proofs.store.Store.settle.Goals as goal
 
@@ -95,3 +95,23 @@ returns-clause-ready g c =
     let last = c.turn.new.device in
     subst (λ (t : Stored g.row.D.Denot). IsSettled t.limit (newest t.file) (d.seen last) (d.may_leave last)) c.self.view_is
     (subst (λ (i : Image). IsSettled s.limit i (d.seen last) (d.may_leave last)) (sym (newest_is s.before s.image)) (invariant_of-self-2 g c).holds)
+
+pub returns-in_err-turn-clause-told : goal.returns-in_err-turn-clause-told
+returns-in_err-turn-clause-told g c =
+    let s = c.self.inside in
+    let d = g.D.Device in
+    let file = file_of s.before s.image in
+    let turns = doubt_turns s.limit s.image (d.seen s.device) (d.may_leave s.device) s.before c.if-is_none.ensures c.self.invariant.holds in
+    let whole = subst (λ (i : Image). IsWhole i) (newest_is s.before s.image) (newest_whole s.limit file (d.seen s.device) (d.may_leave s.device) c.self.invariant.holds) in
+    subst (λ (s : Stored g.row.D.Denot). LeavesOnly d.moment d.left_since s.device c.turn.new.device (λ _. IsTrue d.tells)) c.self.view_is
+    (told_turning d.moment d.left_since s.limit (d.may_leave s.device) (d.seen s.device) s.device c.turn.new.device d.tells _ s.image (g.met.D.Device.told s.device) whole (c.turn.ensures.any_moment _ turns) c.turn.ensures.any_moment)
+
+pub returns-clause-told : goal.returns-clause-told
+returns-clause-told g c =
+    let s = c.self.inside in
+    let d = g.D.Device in
+    let file = file_of s.before s.image in
+    let turns = doubt_turns s.limit s.image (d.seen s.device) (d.may_leave s.device) s.before c.if-is_none.ensures c.self.invariant.holds in
+    let whole = subst (λ (i : Image). IsWhole i) (newest_is s.before s.image) (newest_whole s.limit file (d.seen s.device) (d.may_leave s.device) c.self.invariant.holds) in
+    subst (λ (s : Stored g.row.D.Denot). LeavesOnly d.moment d.left_since s.device c.turn.new.device (λ _. IsTrue d.tells)) c.self.view_is
+    (told_turning d.moment d.left_since s.limit (d.may_leave s.device) (d.seen s.device) s.device c.turn.new.device d.tells _ s.image (g.met.D.Device.told s.device) whole (c.turn.ensures.any_moment _ turns) c.turn.ensures.any_moment)

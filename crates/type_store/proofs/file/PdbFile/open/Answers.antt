@@ -17,8 +17,9 @@ use Rattle.type_store.specs.Files.{FileView, cut_of}
 use Rattle.type_store.specs.Holds.{Contents, holding}
 use Rattle.type_store.specs.Opened.{TellsOpened}
 use Rattle.type_store.specs.Views.{tables_in}
+use Rattle.type_store.specs.Written.{numbers_of}
 use Rattle.type_store.proofs.Chain.{same_contents, told_on}
-use Rattle.type_store.proofs.Opened.{held_bad, held_bad_streams, held_good, tells}
+use Rattle.type_store.proofs.Opened.{held_bad, held_bad_streams, held_behind, held_good, shape_at, tells}
 use Rattle.type_store.proofs.file.PdbFile.open.Goals as goal
 
 pub returns-in_err-store-clause-told : goal.returns-in_err-store-clause-told
@@ -47,6 +48,23 @@ returns-in-Ok-clause-told g c = λ told.
     subst (λ (x : List ℕ). HoldsTables bounds streams.kept streams.info.items streams.age (tables_in streams.tables) (contents_of x image)) c.in_ok-store.ensures.only_reads.seen (c.in-Ok.ensures.holds told) in
     let good = held_good bounds seen image (cut_of streams.age (tables_in streams.tables)) read (tells bounds streams.kept streams.info.items streams.age (tables_in streams.tables) seen image holds) in
     (read ∙ ap (λ (i : Image). Ok i) (sym same), subst (λ (cut : Cut). Holds bounds seen cut) (sym c.as_opened.ensures.cut) good)
+
+pub returns-in-Ok-clause-shape : goal.returns-in-Ok-clause-shape
+returns-in-Ok-clause-shape g c = λ told.
+    let bounds = bounds_of c.args.limits in
+    let seen = g.D.Device.seen c.args.device in
+    let streams = c.in-Ok.streams in
+    let image = newest c.in_ok-store.store.file in
+    let read : read_file seen bounds.blocks ≡ Ok image = c.in_ok-store.ensures.reads told in
+    let holds : HoldsTables bounds streams.kept streams.info.items streams.age (tables_in streams.tables) (contents_of seen image) =
+    subst (λ (x : List ℕ). HoldsTables bounds streams.kept streams.info.items streams.age (tables_in streams.tables) (contents_of x image)) c.in_ok-store.ensures.only_reads.seen (c.in-Ok.ensures.holds told) in
+    record {
+      image = image;
+      read = read;
+      held = holds.held;
+      holds = held_behind bounds seen image holds.held read holds.holds;
+      is = c.as_opened.ensures.shape ∙ shape_at image _ streams.kept (numbers_of holds.held) (ap newest c.in-Ok.ensures.only_reads.file) (sym holds.kept_are);
+    }
 
 pub returns-in-Ok-clause-only_reads : goal.returns-in-Ok-clause-only_reads
 returns-in-Ok-clause-only_reads g c =
