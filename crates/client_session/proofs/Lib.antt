@@ -1,2 +1,7 @@
 mod Lists
 mod NoFault
+mod Growing
+mod Leaving
+pub mod Course
+mod Refused
+mod Answering

@@ -1,1 +1,5 @@
 pub mod Tables
+pub mod Course
+pub mod Commits
+pub mod Standing
+pub mod Served

@@ -1,4 +1,4 @@
--- The one-thread table as a desk: the reply to each request, and the tables that it leaves.
+-- The one-thread table behind a desk: the reply to each request but a commit, and the tables that it leaves.
 use Rattle.std.specs.Prelude.{◌≡◌, ◌+◌, ℕ, IsTrue, List, [], ◌∷◌, ◌++◌, Option, Result, Ok, Err}
 use Rattle.leaf_grammar.specs.declared.grammar.Space.{Space}
 use Rattle.leaf_grammar.specs.declared.grammar.Space.TheVariants.{Types, Items}
@@ -7,7 +7,7 @@ use Rattle.srv_edge.specs.declared.failed.Refusal.TheVariants.{OutOfMemory}
 use Rattle.srv_edge.specs.Frames.{Message, half_bytes, spoken, word_bytes}
 use Rattle.request_frames.specs.Lists.{AreRecords, part_bytes}
 use Rattle.request_frames.specs.Refusals.{refusal_message}
-use Rattle.request_frames.specs.Requests.{Asked, hello, add_type, add_item, add_name, get_type, get_item, get_name, counts, bye, add_types, add_items, request_message}
+use Rattle.request_frames.specs.Requests.{Asked, hello, add_type, add_item, add_name, get_type, get_item, get_name, commit, counts, bye, add_types, add_items, request_message}
 use Rattle.request_frames.specs.Talk.{AnswersWith}
 use Rattle.srv_edge.specs.declared.kind.TheConstants.{ADD_ITEMS, ADD_TYPES, REPLY}
 use Rattle.srv_edge.specs.Growth.{AnswersOrWants}
@@ -48,11 +48,12 @@ abbrev pub kind_of_list : Space → ℕ
 kind_of_list Types = ADD_TYPES
 kind_of_list Items = ADD_ITEMS
 
--- the calls that a request makes: none, one, or an add of each record of a list
+-- the calls on tables that a request makes: none, one, or an add of each record of a list; a commit is put to their file
 pub data Calls : Type 0 where
   none : Calls
   one : Call → Calls
   each : Space → List ℕ → Calls
+  of_file : Calls
 
 abbrev pub calls_of : Asked → Calls
 calls_of (hello version) = none
@@ -62,6 +63,7 @@ calls_of (add_name name) = one (call.AddName name)
 calls_of (get_type index) = one (call.GetType index)
 calls_of (get_item index) = one (call.GetItem index)
 calls_of (get_name offset) = one (call.GetName offset)
+calls_of commit = of_file
 calls_of counts = one call.Counts
 calls_of bye = none
 calls_of (add_types list) = each Types list
@@ -98,16 +100,18 @@ AddsEach space old (r ∷ records) parts new =
 abbrev pub AddsList : Space → Tables → List ℕ → List ℕ → Tables → Type 0
 AddsList space old list parts new = (records : List (List ℕ)) × AreRecords list records × AddsEach space old records parts new
 
--- the calls that a request makes are answered by a reply of this kind, or where there is none by this body
+-- The calls that a request makes are answered by a reply of this kind, or where there is none by this body. Tables alone
+-- answer no commit.
 abbrev pub AnswersCalls : Calls → ℕ → List ℕ → Tables → Message → Tables → Type 0
 AnswersCalls none kind body old reply new = (reply ≡ record { kind = kind; body = body }) × (new ≡ old)
 AnswersCalls (one c) kind body old reply new = AnswersCall kind old c reply new
 AnswersCalls (each space list) kind body old reply new = (parts : List ℕ) × (reply ≡ record { kind = kind; body = parts }) × AddsList space old list parts new
+AnswersCalls of_file kind body old reply new = ⊥
 
--- a request is answered
-abbrev pub Answers : Tables → Asked → Message → Tables → Type 0
-Answers old a reply new = AnswersCalls (calls_of a) (reply_kind a) (greeting a) old reply new
+-- a request is answered by tables
+abbrev pub AnswersByTables : Tables → Asked → Message → Tables → Type 0
+AnswersByTables old a reply new = AnswersCalls (calls_of a) (reply_kind a) (greeting a) old reply new
 
--- a desk that no file lies beneath: it has no faults and holds no references
+-- tables beneath which no file lies: they have no faults and hold no references
 abbrev pub AnswersAlone : Tables → Asked → Message → Tables → Type 0
-AnswersAlone = AnswersWith Answers (λ _. 0) (λ _. [])
+AnswersAlone = AnswersWith AnswersByTables (λ _. 0) (λ _. [])

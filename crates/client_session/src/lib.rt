@@ -1,9 +1,12 @@
 //! Desks: who answers the requests of a session.
 #![tactic(auto)]
 
-mod bare;
+mod answer;
+mod laws;
 mod replies;
+mod solo;
 #[cfg(test)]
 mod tests;
 
-pub use crate::bare::Bare;
+pub use crate::laws::{each_answer, waits_for_nobody};
+pub use crate::solo::Solo;

@@ -1,12 +1,71 @@
-//! A desk over empty tables, behind a link in memory: its limits and the ends of its sessions.
-ghost use Rattle.std.specs.Prelude.{◌<◌};
+//! A desk over a new file in memory, behind a link in memory: its limits, the ends of its sessions,
+//! and a commit past the last number.
+ghost use Rattle.std.specs.Prelude.{◌≡◌, ◌<◌, IfOk, is_some, true};
 
-use crate::Bare;
+use crate::Solo;
+use hub::Book;
+use msf_image::{is_packable, new_file};
 use request_frames::serve_link;
-use srv_edge::{Limits, MemLink, MemSink, MemSource, Room, SessionEnd};
+use srv_edge::{Limits, MemDevice, MemLink, MemSink, MemSource, Room, SessionEnd, Text};
 use std::alloc::Global;
 use std::hash::RandomState;
 use std::test::Fail;
+use type_store::PdbFile;
+
+// The PDB streams of the ages 1 and 2^32 - 1.
+const NEW: &str = "942e3101 00000000 01000000 00000000000000000000000000000000
+    07000000 2f6e616d657300 01000000 01000000 01000000 01000000 00000000 00000000 07000000 00000000
+    dc513301";
+
+const LAST: &str = "942e3101 00000000 ffffffff 00000000000000000000000000000000
+    07000000 2f6e616d657300 01000000 01000000 01000000 01000000 00000000 00000000 07000000 00000000
+    dc513301";
+
+// The streams of types and of items with none, whose hash streams are 5 and 6, and that of names.
+const TYPES: &str = "0bca3101 38000000 00100000 00100000 00000000 0500ffff 04000000 ffff0300
+    000000000000000000000000000000000000000000000000";
+
+const ITEMS: &str = "0bca3101 38000000 00100000 00100000 00000000 0600ffff 04000000 ffff0300
+    000000000000000000000000000000000000000000000000";
+
+const NO_NAMES: &str = "feeffeef 01000000 01000000 00 02000000 00000000 00000000 00000000";
+
+// The bytes of a text with spaces.
+fn bytes_of(alloc: Global, text: &str) -> Result<Vec<u8>, Fail> {
+    let mut bytes = Vec::new(alloc);
+    for part in text.split_whitespace() {
+        bytes.extend_from_slice(&hex::decode(alloc, part)?)?;
+    }
+    Ok(bytes)
+}
+
+// A file with this PDB stream, and without records and names.
+fn file_of(alloc: Global, info: &str) -> Result<Vec<u8>, Fail> {
+    let mut streams = Vec::new(alloc);
+    for text in ["", info, TYPES, "", ITEMS, "", "", NO_NAMES] {
+        streams.push(Text::new(bytes_of(alloc, text)?))?;
+    }
+    if !is_packable(512, &streams) {
+        return Err(Fail::new("not packable"));
+    }
+    Ok(new_file(alloc, 512, &streams)?)
+}
+
+// A book of such a file.
+fn book_of(
+    alloc: Global,
+    keys: RandomState,
+    info: &str,
+    limits: Limits,
+) -> Result<Book<MemDevice>, Fail>
+    ensures { IfOk result (λ book. is_some book.file ≡ true) }
+{
+    let device = MemDevice::new(alloc, file_of(alloc, info)?, Vec::new(alloc));
+    match PdbFile::open(alloc, keys, device, limits) {
+        Ok((file, tables)) => Ok(Book::new(file, tables)),
+        Err(_) => Err(Fail::new("not opened")),
+    }
+}
 
 // A modifier of type 74 with attribute 1, as an AddType.
 const ADD: &str = "0d000000 02 0a000110 74000000 0100f2f1";
@@ -25,11 +84,7 @@ const ADD_COUNTS: &str = "0d000000 02 0a000110 74000000 0100f2f1 01000000 09";
 fn source_of(alloc: Global, input: &str, piece: usize) -> Result<MemSource, Fail>
     requires { 0 < piece }
 {
-    let mut bytes = Vec::new(alloc);
-    for text in input.split_whitespace() {
-        bytes.extend_from_slice(&hex::decode(alloc, text)?)?;
-    }
-    Ok(MemSource::new(bytes, piece, Vec::new(alloc)))
+    Ok(MemSource::new(bytes_of(alloc, input)?, piece, Vec::new(alloc)))
 }
 
 // The text without its spaces.
@@ -41,8 +96,8 @@ fn packed(alloc: Global, text: &str) -> Result<String, Fail> {
     Ok(all)
 }
 
-// How a link is served over empty tables up to a limit, and then to its end over the same tables;
-// and all replies. The source gives a byte and at most so many more in each call, and the sink
+// How a link is served over a new file up to a limit, and then to its end over the same tables; and
+// all replies. The source gives a byte and at most so many more in each call, and the sink
 // fails at these calls.
 fn served_twice(
     alloc: Global,
@@ -56,7 +111,8 @@ fn served_twice(
         source: source_of(alloc, input, usize::from(more) + 1)?,
         sink: MemSink::new(alloc, Vec::from_slice(alloc, sink_fails)?),
     };
-    let mut desk = Bare::new(alloc, keys, Limits::STANDARD)?;
+    let mut book = book_of(alloc, keys, NEW, Limits::STANDARD)?;
+    let mut desk = Solo::new(alloc, &mut book);
     let mut room = Room::new(alloc)?;
     let first = serve_link(&(), &mut link, &mut desk, limit, &mut room);
     let second = serve_link(&(), &mut link, &mut desk, u64::MAX, &mut room);
@@ -97,7 +153,7 @@ const THREE: &str = "0d000000020a000110740000000100f2f1 0d000000020a000110740000
 const NAMES: &str =
     "020000000461 020000000462 020000000461 0100000004 050000000703000000 0100000009";
 
-// The replies over empty tables that hold so many records, bytes of records and bytes of names.
+// The replies over a new file that holds so many records, bytes of records and bytes of names.
 fn talk_within(
     alloc: Global,
     keys: RandomState,
@@ -115,7 +171,8 @@ fn talk_within(
         source: source_of(alloc, input, 255)?,
         sink: MemSink::new(alloc, Vec::new(alloc)),
     };
-    let mut desk = Bare::new(alloc, keys, limits)?;
+    let mut book = book_of(alloc, keys, NEW, limits)?;
+    let mut desk = Solo::new(alloc, &mut book);
     let mut room = Room::new(alloc)?;
     serve_link(&(), &mut link, &mut desk, u64::from(u32::MAX), &mut room);
     Ok(hex::encode(alloc, link.sink.taken())?)
@@ -172,5 +229,28 @@ fn limits_at_their_numbers(rt: HostRuntime) -> Result<(), Fail> {
         let got = talk_within(rt.alloc(), keys, limits, input)?;
         assert_eq!(rt; got.as_str(), packed(rt.alloc(), replies)?.as_str());
     }
+    Ok(())
+}
+
+// The last number is taken, so a commit is full, and the session goes on.
+#[test]
+fn commit_past_the_last_number(rt: HostRuntime) -> Result<(), Fail> {
+    let keys = RandomState::new(&rt)?;
+    let alloc = rt.alloc();
+    let input = "0d000000 02 0a000110 74000000 0100f2f1 01000000 08 01000000 09 01000000 0a";
+    let replies = "050000008200100000 0a000000ff060500000000000000
+        0d00000089010000000000000000000000 010000008a";
+    let mut link = MemLink {
+        source: source_of(alloc, input, 255)?,
+        sink: MemSink::new(alloc, Vec::new(alloc)),
+    };
+    let mut book = book_of(alloc, keys, LAST, Limits::STANDARD)?;
+    let mut desk = Solo::new(alloc, &mut book);
+    let mut room = Room::new(alloc)?;
+    let end = serve_link(&(), &mut link, &mut desk, u64::MAX, &mut room);
+    assert_eq!(rt; end, SessionEnd::Bye);
+    let got = hex::encode(alloc, link.sink.taken())?;
+    assert_eq!(rt; got.as_str(), packed(alloc, replies)?.as_str());
+    assert_eq!(rt; book.acked, u32::MAX);
     Ok(())
 }

@@ -10,7 +10,7 @@ use Rattle.srv_edge.proofs.Numbers.{half_bytes-read, length-half_bytes, little_n
 use Rattle.request_frames.specs.declared.serve.Turn.{Turn}
 use Rattle.request_frames.specs.declared.serve.Turn.TheVariants.{GoesOn, Ends}
 use Rattle.request_frames.specs.Next.{Follows, IsAnswered, turn_behind}
-use Rattle.request_frames.specs.Requests.{Asked, IsAsked, IsBadBody, request_message, hello, add_type, add_item, add_name, get_type, get_item, get_name, counts, bye, add_types, add_items}
+use Rattle.request_frames.specs.Requests.{Asked, IsAsked, IsBadBody, request_message, hello, add_type, add_item, add_name, get_type, get_item, get_name, commit, counts, bye, add_types, add_items}
 
 -- a Hello, by its version
 hello_follows : (head : Head) (v : ℕ) → 1 ≤ v → v < 2 ^ 16 → spoken v ≡ version_behind (record { head = head; message = record { kind = 1; body = half_bytes v } })
@@ -29,6 +29,7 @@ turn_follows version head (add_name name) is = (λ bye. cc, refl)
 turn_follows version head (get_type index) is = (λ bye. cc, refl)
 turn_follows version head (get_item index) is = (λ bye. cc, refl)
 turn_follows version head (get_name offset) is = (λ bye. cc, refl)
+turn_follows version head commit is = (λ bye. cc, refl)
 turn_follows version head counts is = (λ bye. cc, refl)
 turn_follows version head bye is = (refl, (refl, refl))
 turn_follows version head (add_types list) is = (λ bye. cc, refl)

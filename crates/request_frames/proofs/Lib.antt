@@ -9,3 +9,4 @@ mod Refusing
 pub mod Serving
 pub mod Turns
 mod Finishing
+pub mod Mapping

@@ -3,7 +3,7 @@ use Rattle.std.specs.Prelude.{◌≡◌, ◌≤◌, ◌<◌, ◌^◌, ◌⊎◌,
 use Rattle.srv_edge.specs.declared.failed.SessionEnd.TheVariants.{Bye, WriteFault}
 use Rattle.srv_edge.specs.Finished.{IsReply}
 use Rattle.srv_edge.specs.Frames.{Frame, IsBye, IsFrame, IsLength, IsPartFrame, Message, frame_bytes, spoken, version_behind, word_bytes}
-use Rattle.request_frames.specs.Requests.{Asked, hello, add_type, add_item, add_name, get_type, get_item, get_name, counts, bye, add_types, add_items}
+use Rattle.request_frames.specs.Requests.{Asked, hello, add_type, add_item, add_name, get_type, get_item, get_name, commit, counts, bye, add_types, add_items}
 use Rattle.request_frames.specs.Talk.{AnswersFrame}
 use Rattle.request_frames.specs.Session.{IsInputEnd, IsSession}
 use Rattle.request_frames.specs.declared.next.Filled.{Filled}
@@ -48,6 +48,7 @@ turn_behind version (add_name name) = GoesOn version
 turn_behind version (get_type index) = GoesOn version
 turn_behind version (get_item index) = GoesOn version
 turn_behind version (get_name offset) = GoesOn version
+turn_behind version commit = GoesOn version
 turn_behind version counts = GoesOn version
 turn_behind version bye = Ends Bye
 turn_behind version (add_types list) = GoesOn version

@@ -1,12 +1,13 @@
 -- Replies as messages, in both versions.
 use Rattle.std.specs.Prelude.{◌≡◌, ◌≢◌, ◌≤◌, ◌+◌, ◌⊎◌, ⊤, ℕ, [], ◌++◌, length, All}
 use Rattle.srv_edge.specs.declared.code.TheConstants as codes
+use Rattle.request_frames.specs.declared.commit_kind.TheConstants.{COMMIT}
 use Rattle.srv_edge.specs.declared.kind.TheConstants as kinds
 use Rattle.srv_edge.specs.declared.space.TheConstants as spaces
 use Rattle.srv_edge.specs.Frames.{Message, half_bytes, refused, word_bytes}
 use Rattle.request_frames.specs.Lists.{IsPartsLength}
 use Rattle.request_frames.specs.declared.reply.Reply.{Reply}
-use Rattle.request_frames.specs.declared.reply.Reply.TheVariants.{Hello, AddedType, AddedItem, AddedName, GotType, GotItem, GotName, Counted, Bye, Parts, Refused}
+use Rattle.request_frames.specs.declared.reply.Reply.TheVariants.{Hello, AddedType, AddedItem, AddedName, GotType, GotItem, GotName, Committed, Counted, Bye, Parts, Refused}
 
 -- the message of a reply; the parts of the reply to a list are of a space
 abbrev pub reply_message : Reply → Message
@@ -17,6 +18,7 @@ reply_message (AddedName offset) = record { kind = kinds.ADD_NAME + kinds.REPLY;
 reply_message (GotType r) = record { kind = kinds.GET_TYPE + kinds.REPLY; body = r.now }
 reply_message (GotItem r) = record { kind = kinds.GET_ITEM + kinds.REPLY; body = r.now }
 reply_message (GotName name) = record { kind = kinds.GET_NAME + kinds.REPLY; body = name.now }
+reply_message (Committed number) = record { kind = COMMIT + kinds.REPLY; body = word_bytes number }
 reply_message (Counted types items names) = record { kind = kinds.COUNTS + kinds.REPLY; body = word_bytes types ++ word_bytes items ++ word_bytes names }
 reply_message Bye = record { kind = kinds.BYE + kinds.REPLY; body = [] }
 reply_message (Parts space parts) = record { kind = kinds.ADD_TYPES + space + kinds.REPLY; body = parts.now }
@@ -32,6 +34,7 @@ IsCommonReplyKind kind =
     ⊎ (kind ≡ kinds.GET_TYPE + kinds.REPLY)
     ⊎ (kind ≡ kinds.GET_ITEM + kinds.REPLY)
     ⊎ (kind ≡ kinds.GET_NAME + kinds.REPLY)
+    ⊎ (kind ≡ COMMIT + kinds.REPLY)
     ⊎ (kind ≡ kinds.COUNTS + kinds.REPLY)
     ⊎ (kind ≡ kinds.BYE + kinds.REPLY)
     ⊎ (kind ≡ kinds.REFUSED)
@@ -51,6 +54,7 @@ IsReply version (AddedName offset) = ⊤
 IsReply version (GotType r) = ⊤
 IsReply version (GotItem r) = ⊤
 IsReply version (GotName name) = All (λ b. b ≢ 0) name.now
+IsReply version (Committed number) = ⊤
 IsReply version (Counted types items names) = ⊤
 IsReply version Bye = ⊤
 IsReply version (Parts space parts) = (version ≡ 2) × (space ≤ spaces.ITEMS) × IsPartsLength (length parts.now)

@@ -2,13 +2,14 @@
 use Rattle.std.specs.Prelude.{◌≡◌, ◌≢◌, ◌≤◌, ◌<◌, ◌==◌, ◌+◌, ◌^◌, ◌⊎◌, ⊤, ℕ, List, [], length, drop, slice_index, if◌then◌else◌}
 use Rattle.byteorder.specs.Endian.{little_number}
 use Rattle.srv_edge.specs.declared.head.Head.{Head}
+use Rattle.request_frames.specs.declared.commit_kind.TheConstants.{COMMIT}
 use Rattle.srv_edge.specs.declared.kind.TheConstants as kinds
 use Rattle.srv_edge.specs.declared.limit.TheConstants.{RECORD_BYTES}
 use Rattle.srv_edge.specs.Name.{IsName}
 use Rattle.srv_edge.specs.Frames.{Frame, Message, half_bytes, tag_size, word_bytes}
 use Rattle.request_frames.specs.Lists.{IsRecordList}
 use Rattle.request_frames.specs.declared.request.Request.{Request}
-use Rattle.request_frames.specs.declared.request.Request.TheVariants.{Hello, AddType, AddItem, AddName, GetType, GetItem, GetName, Counts, Bye, AddTypes, AddItems}
+use Rattle.request_frames.specs.declared.request.Request.TheVariants.{Hello, AddType, AddItem, AddName, GetType, GetItem, GetName, Commit, Counts, Bye, AddTypes, AddItems}
 
 -- what a frame asks
 pub data Asked : Type 0 where
@@ -19,6 +20,7 @@ pub data Asked : Type 0 where
   get_type : ℕ → Asked
   get_item : ℕ → Asked
   get_name : ℕ → Asked
+  commit : Asked
   counts : Asked
   bye : Asked
   add_types : List ℕ → Asked
@@ -33,6 +35,7 @@ asked (AddName name) = add_name name.now
 asked (GetType index) = get_type index
 asked (GetItem index) = get_item index
 asked (GetName offset) = get_name offset
+asked Commit = commit
 asked Counts = counts
 asked Bye = bye
 asked (AddTypes list) = add_types list.now
@@ -47,6 +50,7 @@ request_message (add_name name) = record { kind = kinds.ADD_NAME; body = name }
 request_message (get_type index) = record { kind = kinds.GET_TYPE; body = word_bytes index }
 request_message (get_item index) = record { kind = kinds.GET_ITEM; body = word_bytes index }
 request_message (get_name offset) = record { kind = kinds.GET_NAME; body = word_bytes offset }
+request_message commit = record { kind = COMMIT; body = [] }
 request_message counts = record { kind = kinds.COUNTS; body = [] }
 request_message bye = record { kind = kinds.BYE; body = [] }
 request_message (add_types list) = record { kind = kinds.ADD_TYPES; body = list }
@@ -61,6 +65,7 @@ IsAsked version (add_name name) = IsName name
 IsAsked version (get_type index) = index < 2 ^ 32
 IsAsked version (get_item index) = index < 2 ^ 32
 IsAsked version (get_name offset) = offset < 2 ^ 32
+IsAsked version commit = ⊤
 IsAsked version counts = ⊤
 IsAsked version bye = ⊤
 IsAsked version (add_types list) = (version ≡ 2) × IsRecordList list
@@ -75,6 +80,7 @@ FitsFrame (add_name name) = ⊤
 FitsFrame (get_type index) = ⊤
 FitsFrame (get_item index) = ⊤
 FitsFrame (get_name offset) = ⊤
+FitsFrame commit = ⊤
 FitsFrame counts = ⊤
 FitsFrame bye = ⊤
 FitsFrame (add_types list) = length list ≤ RECORD_BYTES
@@ -83,7 +89,7 @@ FitsFrame (add_items list) = length list ≤ RECORD_BYTES
 -- the kinds of requests of both versions
 abbrev pub IsCommonKind : ℕ → Type 0
 IsCommonKind kind = (kind ≡ kinds.HELLO) ⊎ (kind ≡ kinds.ADD_TYPE) ⊎ (kind ≡ kinds.ADD_ITEM) ⊎ (kind ≡ kinds.ADD_NAME) ⊎ (kind ≡ kinds.GET_TYPE)
-    ⊎ (kind ≡ kinds.GET_ITEM) ⊎ (kind ≡ kinds.GET_NAME) ⊎ (kind ≡ kinds.COUNTS) ⊎ (kind ≡ kinds.BYE)
+    ⊎ (kind ≡ kinds.GET_ITEM) ⊎ (kind ≡ kinds.GET_NAME) ⊎ (kind ≡ COMMIT) ⊎ (kind ≡ kinds.COUNTS) ⊎ (kind ≡ kinds.BYE)
 
 -- the kinds of requests of a version
 abbrev pub IsKind : ℕ → ℕ → Type 0

@@ -12,6 +12,8 @@ pub enum Reply<'a> {
     GotType(&'a [u8]),
     GotItem(&'a [u8]),
     GotName(&'a [u8]),
+    /// The number of the commit.
+    Committed(u32),
     /// How many types, items and names there are.
     Counted(u32, u32, u32),
     Bye,

@@ -12,6 +12,8 @@ pub enum Request<'a> {
     GetType(u32),
     GetItem(u32),
     GetName(u32),
+    /// The tables are to be written to their file.
+    Commit,
     Counts,
     Bye,
     /// Types' records, one after another, each with its length of two bytes. Of version 2 alone, as

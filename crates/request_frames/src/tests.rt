@@ -43,6 +43,7 @@ fn requests_both_ways(rt: HostRuntime) -> Result<(), Fail> {
     assert!(rt; goes_both_ways(alloc, one, Request::GetType(0x1000), "050000000500100000")?);
     assert!(rt; goes_both_ways(alloc, one, Request::GetItem(0x1000), "050000000600100000")?);
     assert!(rt; goes_both_ways(alloc, one, Request::GetName(3), "050000000703000000")?);
+    assert!(rt; goes_both_ways(alloc, one, Request::Commit, "0100000008")?);
     assert!(rt; goes_both_ways(alloc, one, Request::Counts, "0100000009")?);
     assert!(rt; goes_both_ways(alloc, one, Request::Bye, "010000000a")?);
     assert!(rt; goes_both_ways(alloc, two, Request::Hello(2), "0700000001070000000200")?);
@@ -59,7 +60,9 @@ fn lists_and_parts(rt: HostRuntime) -> Result<(), Fail> {
         ("0c07000000010061", "Ok(AddItems([1, 0, 97]))"),
         ("0c0700000000000000", "Ok(AddItems([0, 0, 0, 0]))"),
         ("0b07000000", "Err(Body)"),
-        ("0807000000", "Err(Kind)"),
+        ("0807000000", "Ok(Commit)"),
+        ("080700000000", "Err(Body)"),
+        ("0d07000000", "Err(Kind)"),
     ];
     for (text, want) in table {
         let bytes = hex::decode(rt.alloc(), text)?;
@@ -101,6 +104,7 @@ fn replies_by_their_kinds(rt: HostRuntime) -> Result<(), Fail> {
         ("856162", "Ok(GotType([97, 98]))"),
         ("866162", "Ok(GotItem([97, 98]))"),
         ("876263", "Ok(GotName([98, 99]))"),
+        ("8802000000", "Ok(Committed(2))"),
         ("89010000000000000002000000", "Ok(Counted(1, 0, 2))"),
         ("8a", "Ok(Bye)"),
         (
@@ -120,7 +124,8 @@ fn replies_by_their_kinds(rt: HostRuntime) -> Result<(), Fail> {
         ("ff000000000000000000", "Err(Body)"),
         ("ff0a0000000000000000", "Err(Body)"),
         ("8b000000000000000000", "Err(Kind)"),
-        ("8802000000", "Err(Kind)"),
+        ("880200", "Err(Body)"),
+        ("8d02000000", "Err(Kind)"),
         ("02", "Err(Kind)"),
     ];
     for (text, want) in table {

@@ -1,0 +1,11 @@
+pub mod Adding
+pub mod Answering
+pub mod Beginning
+pub mod Closing
+pub mod Ending
+pub mod Filing
+pub mod Opening
+pub mod Owning
+pub mod Passing
+pub mod Reading
+pub mod Rooms
