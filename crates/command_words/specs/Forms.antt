@@ -1,11 +1,14 @@
 -- The forms of a command line.
-use Rattle.std.specs.Prelude.{◌≡◌, ◌⊎◌, ◌<◌, ⊤, length, List, [], ◌∷◌, Option, Some, None, Result, MatchResult, if◌then◌else◌, option_and_then, option_map, codes}
+use Rattle.std.specs.Prelude.{◌≡◌, ◌⊎◌, ◌<◌, ◌^◌, ℕ, length, List, [], ◌∷◌, Option, Some, None, Result, MatchResult, if◌then◌else◌, option_and_then, option_map, codes, decimal, replicate}
 use Rattle.std.specs.Str.{bytes_eq}
+use Rattle.hex.specs.Hex.{IsBytes, encode_lower}
+use Rattle.msf_blocks.specs.Blocks.{IsBlockSize}
 use Rattle.command_words.specs.declared.plan.Plan.{Plan}
 use Rattle.command_words.specs.declared.plan.Plan.TheVariants as plan
 use Rattle.command_words.specs.declared.plan.Usage.{Usage}
 use Rattle.command_words.specs.declared.plan.Usage.TheVariants as usage
 use Rattle.command_words.specs.Lines.{Line, Text, line_of}
+use Rattle.command_words.specs.Values.{◌>>=◌, block_size_of, guid_of, number_of, option_or}
 
 -- What a reader answers where `value` is what the words say: that, or want of memory, or no form where they say nothing.
 abbrev pub Answers : {X : Type 0} → Option X → Result X Usage → Type 0
@@ -17,17 +20,13 @@ only [] = None
 only (text ∷ []) = Some text
 only (text ∷ other ∷ texts) = None
 
--- `session`
-abbrev pub session_by : List Text → Option Plan
-session_by [] = Some plan.Session
-session_by (text ∷ texts) = None
-
-abbrev pub session_plan : Line → Option Plan
-session_plan line = session_by line.positionals
-
--- the one path of a line
+-- the one positional of a line
 abbrev pub only_positional : Line → Option Text
 only_positional line = only line.positionals
+
+-- `session PATH`
+abbrev pub session_plan : Line → Option Plan
+session_plan line = option_map plan.Session (only_positional line)
 
 -- `check PATH`
 abbrev pub check_plan : Line → Option Plan
@@ -37,26 +36,55 @@ check_plan line = option_map plan.Check (only_positional line)
 abbrev pub dump_plan : Line → Option Plan
 dump_plan line = option_map plan.Dump (only_positional line)
 
+-- the options of `init`
+abbrev pub init_options : List Text
+init_options = codes "block" ∷ codes "guid" ∷ codes "signature" ∷ []
+
+-- `init PATH [--block N] [--guid HEX] [--signature N]`
+abbrev pub init_plan : Line → Option Plan
+init_plan line = do
+  path ← only_positional line
+  block ← option_or 4096 block_size_of (codes "block") line
+  guid ← option_or (replicate 16 0) guid_of (codes "guid") line
+  signature ← option_or 0 number_of (codes "signature") line
+  Some (plan.Init path block guid signature)
+
 -- the plan of a command and the words behind it
 abbrev pub form_by : Text → List Text → Option Plan
 form_by command words =
     if bytes_eq command (codes "session") then option_and_then session_plan (line_of [] words)
     else (if bytes_eq command (codes "check") then option_and_then check_plan (line_of [] words)
-    else (if bytes_eq command (codes "dump") then option_and_then dump_plan (line_of [] words) else None))
+    else (if bytes_eq command (codes "dump") then option_and_then dump_plan (line_of [] words)
+    else (if bytes_eq command (codes "init") then option_and_then init_plan (line_of init_options words) else None)))
 
 -- the plan that words stand for
 abbrev pub form_of : List Text → Option Plan
 form_of [] = None
 form_of (command ∷ words) = form_by command words
 
--- a path has at least one byte
+-- what an `init` is asked for
+pub record IsInit (path : Text) (block : ℕ) (guid : List ℕ) (signature : ℕ) : Type 0 where
+  pub path_there : 0 < length path
+  pub block_size : IsBlockSize block
+  pub guid_length : length guid ≡ 16
+  pub guid_bytes : IsBytes guid
+  pub small : signature < 2 ^ 32
+
+-- a plan has a path of at least one byte, and numbers within their ranges
 abbrev pub IsPlan : Plan → Type 0
-IsPlan plan.Session = ⊤
+IsPlan (plan.Session path) = 0 < length path
 IsPlan (plan.Check path) = 0 < length path
 IsPlan (plan.Dump path) = 0 < length path
+IsPlan (plan.Init path block guid signature) = IsInit path block guid signature
 
--- words that stand for a plan. Behind two dashes each path may stand.
+-- the words of a command with one path. Behind two dashes each path may stand.
+abbrev pub path_words : Text → Text → List Text
+path_words command path = command ∷ codes "--" ∷ path ∷ []
+
+-- words that stand for a plan
 abbrev pub words_for : Plan → List Text
-words_for plan.Session = codes "session" ∷ []
-words_for (plan.Check path) = codes "check" ∷ codes "--" ∷ path ∷ []
-words_for (plan.Dump path) = codes "dump" ∷ codes "--" ∷ path ∷ []
+words_for (plan.Session path) = path_words (codes "session") path
+words_for (plan.Check path) = path_words (codes "check") path
+words_for (plan.Dump path) = path_words (codes "dump") path
+words_for (plan.Init path block guid signature) =
+    codes "init" ∷ codes "--block" ∷ decimal block ∷ codes "--guid" ∷ encode_lower guid ∷ codes "--signature" ∷ decimal signature ∷ codes "--" ∷ path ∷ []

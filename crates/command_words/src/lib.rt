@@ -6,6 +6,7 @@ mod line;
 mod plan;
 #[cfg(test)]
 mod tests;
+mod values;
 mod word;
 
 pub use crate::laws::{plans_have_words, words_spell};

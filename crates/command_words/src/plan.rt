@@ -1,23 +1,37 @@
-ghost use Rattle.std.specs.Prelude.{◌≡◌, IfOk, [], map, option_and_then};
+ghost use Rattle.std.specs.Prelude.{◌≡◌, ◌⊎◌, IfOk, MatchResult, None, Some, [], codes, map, option_and_then, option_map};
 ghost use Rattle.std.specs.List.{AllByRecursion};
 ghost use Rattle.std.specs.Str.{IsUtf8};
-ghost use Rattle.command_words.specs.Forms.{Answers, check_plan, dump_plan, form_by, form_of, only_positional, session_plan};
-ghost use Rattle.command_words.specs.Lines.{line_of};
+ghost use Rattle.command_words.specs.Forms.{Answers, check_plan, dump_plan, form_by, form_of, init_options, init_plan, only_positional, session_plan};
+ghost use Rattle.command_words.specs.Lines.{Line, line_of, value_in};
 ghost use Rattle.command_words.specs.declared.plan.Usage.TheVariants.{OutOfMemory};
 
 use crate::line::{POSITIONAL, read};
+use crate::values::{block_size, guid, signature};
 use crate::word::Word;
 use std::alloc::{AllocError, Global};
 
 /// What the words of a command line ask for.
 #[derive(Drop)]
 pub enum Plan {
-    /// Serve standard input over empty tables.
-    Session,
+    /// Serve standard input over the tables of a file, and commit to it.
+    Session {
+        path: Word,
+    },
     /// Read the tables of a file, and print its two lines or its first damage.
-    Check { path: Word },
+    Check {
+        path: Word,
+    },
     /// Read the tables of a file, and print all of them, or its first damage.
-    Dump { path: Word },
+    Dump {
+        path: Word,
+    },
+    /// Make a new file, with blocks of this size, and print its two lines.
+    Init {
+        path: Word,
+        block: u32,
+        guid: [u8; 16],
+        signature: u32,
+    },
 }
 
 /// Why words have no plan.
@@ -67,6 +81,7 @@ fn plan_by<'a>(alloc: Global, command: &str, words: &'a [&'a str]) -> Result<Pla
         "session" => session(alloc, words),
         "check" => check(alloc, words),
         "dump" => dump(alloc, words),
+        "init" => init(alloc, words),
         _ => Err(Usage::NotAForm),
     }
 }
@@ -76,11 +91,8 @@ fn session<'a>(alloc: Global, words: &'a [&'a str]) -> Result<Plan, Usage>
     ensures { Answers (option_and_then session_plan (line_of [] (map (λ w. w.now) words.now)))
         result }
 {
-    let matches = read(alloc, &[], words)?;
-    match matches.get_strs(POSITIONAL) {
-        None | Some([]) => Ok(Plan::Session),
-        Some(_) => Err(Usage::NotAForm),
-    }
+    let path = only_path(alloc, words)?;
+    Ok(Plan::Session { path })
 }
 
 fn check<'a>(alloc: Global, words: &'a [&'a str]) -> Result<Plan, Usage>
@@ -99,6 +111,64 @@ fn dump<'a>(alloc: Global, words: &'a [&'a str]) -> Result<Plan, Usage>
 {
     let path = only_path(alloc, words)?;
     Ok(Plan::Dump { path })
+}
+
+// The words of an `init`: its path, and the values of its options.
+#[derive(Drop)]
+struct InitWords<'a> {
+    path: &'a str,
+    block: Option<&'a str>,
+    guid: Option<&'a str>,
+    signature: Option<&'a str>,
+}
+
+fn init<'a>(alloc: Global, words: &'a [&'a str]) -> Result<Plan, Usage>
+    requires { AllByRecursion IsUtf8 (map (λ w. w.now) words.now) }
+    ensures { Answers (option_and_then init_plan
+        (line_of init_options (map (λ w. w.now) words.now))) result }
+{
+    let options = ["block", "guid", "signature"];
+    let given = init_words(alloc, options.as_slice(), words)?;
+    let block = block_size(given.block)?;
+    let guid = guid(given.guid)?;
+    let signature = signature(given.signature)?;
+    let path = Word::new(String::from_str(alloc, given.path)?);
+    Ok(Plan::Init {
+        path,
+        block,
+        guid,
+        signature,
+    })
+}
+
+fn init_words<'a>(
+    alloc: Global,
+    options: &'a [&'a str],
+    words: &'a [&'a str],
+) -> Result<InitWords<'a>, Usage>
+    requires options { map (λ o. o.now) options.now ≡ init_options }
+    requires texts { AllByRecursion IsUtf8 (map (λ w. w.now) words.now) }
+    ensures { let line_is = line_of init_options (map (λ w. w.now) words.now) in
+        MatchResult result
+        (λ given. (line : Line) × (line_is ≡ Some line)
+        × (only_positional line ≡ Some given.path.now)
+        × (value_in (codes "block") line.options ≡ option_map (λ t. t.now) given.block)
+        × (value_in (codes "guid") line.options ≡ option_map (λ t. t.now) given.guid)
+        × (value_in (codes "signature") line.options
+        ≡ option_map (λ t. t.now) given.signature))
+        (λ why. (why ≡ Usage.OutOfMemory)
+        ⊎ ((why ≡ Usage.NotAForm) × (option_and_then only_positional line_is ≡ None))) }
+{
+    let matches = read(alloc, options, words)?;
+    let Some([file]) = matches.get_strs(POSITIONAL) else {
+        return Err(Usage::NotAForm);
+    };
+    Ok(InitWords {
+        path: file,
+        block: matches.get_str("block"),
+        guid: matches.get_str("guid"),
+        signature: matches.get_str("signature"),
+    })
 }
 
 // The one positional of words without options.

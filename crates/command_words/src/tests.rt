@@ -19,9 +19,24 @@ fn words_of(alloc: Global, line: &str) -> Result<Vec<Word>, Fail> {
 // What the words ask for, as a text.
 fn asked(alloc: Global, words: &[Word]) -> Result<String, Fail> {
     match plan_of(alloc, words) {
-        Ok(Plan::Session) => Ok(String::from_str(alloc, "session")?),
+        Ok(Plan::Session { path }) => Ok(format!(in alloc; "session {}", path.as_str())?),
         Ok(Plan::Check { path }) => Ok(format!(in alloc; "check {}", path.as_str())?),
         Ok(Plan::Dump { path }) => Ok(format!(in alloc; "dump {}", path.as_str())?),
+        Ok(
+            Plan::Init {
+                path,
+                block,
+                guid,
+                signature,
+            },
+        ) => {
+            let guid = hex::encode(alloc, guid.as_slice())?;
+            Ok(format!(in alloc;
+                "init {} {block} {} {signature}",
+                path.as_str(),
+                guid.as_str()
+            )?)
+        }
         Err(Usage::NotAForm) => Ok(String::from_str(alloc, "")?),
         Err(Usage::OutOfMemory) => Ok(String::from_str(alloc, "out of memory")?),
     }
@@ -33,8 +48,11 @@ fn command_lines(rt: HostRuntime) -> Result<(), Fail> {
     let alloc = rt.alloc();
     assert_eq!(rt; asked(alloc, &[])?.as_str(), "");
     for (line, want) in [
-        ("session", "session"),
-        ("session --", "session"),
+        ("session P", "session P"),
+        ("session -", "session -"),
+        ("session -- P", "session P"),
+        ("session -- --", "session --"),
+        ("session session", "session session"),
         ("check P", "check P"),
         ("check -- P", "check P"),
         ("check P --", "check P"),
@@ -59,6 +77,31 @@ fn command_lines(rt: HostRuntime) -> Result<(), Fail> {
         ("dump -- -P", "dump -P"),
         ("dump P=Q --", "dump P=Q"),
         ("dump check", "dump check"),
+        ("init P", "init P 4096 00000000000000000000000000000000 0"),
+        (
+            "init --block 512 P",
+            "init P 512 00000000000000000000000000000000 0",
+        ),
+        (
+            "init P --block=0512",
+            "init P 512 00000000000000000000000000000000 0",
+        ),
+        (
+            "init --block 0000032768 P",
+            "init P 32768 00000000000000000000000000000000 0",
+        ),
+        (
+            "init P --guid 00112233445566778899aAbBcCdDeEfF",
+            "init P 4096 00112233445566778899aabbccddeeff 0",
+        ),
+        (
+            "init P --signature 4294967295",
+            "init P 4096 00000000000000000000000000000000 4294967295",
+        ),
+        (
+            "init --signature=7 --guid=000000000000000000000000000000ff --block=1024 -- -P",
+            "init -P 1024 000000000000000000000000000000ff 7",
+        ),
     ] {
         let words = words_of(alloc, line)?;
         assert_eq!(rt; asked(alloc, &words)?.as_str(), want, "{line}");
@@ -81,8 +124,6 @@ fn command_lines(rt: HostRuntime) -> Result<(), Fail> {
         "session=",
         " session",
         "session ",
-        "session P",
-        "session -",
         "session -x",
         "session --x",
         "session ---",
@@ -90,11 +131,35 @@ fn command_lines(rt: HostRuntime) -> Result<(), Fail> {
         "session --help",
         "session -V",
         "session --version",
-        "session help",
-        "session session",
-        "session -- P",
-        "session -- --",
         "session --block 512",
+        "session P --block 512",
+        "session P Q",
+        "session",
+        "session --",
+        "session help x",
+        "init",
+        "init P Q",
+        "init --block 512",
+        "init P --block 511",
+        "init P --block 65536",
+        "init P --block 4000",
+        "init P --block +512",
+        "init P --block -512",
+        "init P --block=-512",
+        "init P --block 512k",
+        "init P --block 00000000512",
+        "init P --block= ",
+        "init P --block",
+        "init P --block -- 512",
+        "init P --block 512 --block 512",
+        "init P --guid 0",
+        "init P --guid 0011223344556677889900112233445g",
+        "init P --guid 001122334455667788990011223344556677",
+        "init P --signature 4294967296",
+        "init P --signature 10000000000",
+        "init P --signature 0x10",
+        "init P --seed 1",
+        "Init P",
         "check",
         "check ",
         "check --",
@@ -139,7 +204,6 @@ fn command_lines(rt: HostRuntime) -> Result<(), Fail> {
         "dump --block 512 P",
         "Dump P",
         "dumps P",
-        "init P",
         "gen 1",
         "serve P --listen S --sessions 1",
     ] {

@@ -1,3 +1,4 @@
 pub mod Run
 pub mod Session
 pub mod Printed
+pub mod Making

@@ -1,5 +1,7 @@
 -- How a run of the program ends.
-use Rattle.std.specs.Prelude.{◌≡◌, ⊤, ℕ, IsTrue, List, codes}
+use Rattle.std.specs.Prelude.{◌≡◌, ⊤, ℕ, IsTrue, List, Option, Some, None, codes}
+use Rattle.command_words.specs.declared.plan.Plan.{Plan}
+use Rattle.command_words.specs.declared.plan.Plan.TheVariants as plan
 use Rattle.srv_edge.specs.declared.failed.SessionEnd.{SessionEnd}
 use Rattle.srv_edge.specs.declared.failed.SessionEnd.TheVariants as end
 use Rattle.srv_edge.specs.declared.sink.Sink as sink
@@ -29,6 +31,7 @@ IsEarly status.DiskFault = ⊥
 IsEarly (status.Damage kind place) = ⊥
 IsEarly status.CutShort = ⊥
 IsEarly status.BadLength = ⊥
+IsEarly status.NotEmpty = ⊥
 
 -- nothing was read of a source that tells it
 abbrev pub IsUnread : {S : Type 0} → source.Ghosts S → S → S → Type 0
@@ -50,6 +53,7 @@ exit_code status.TooLong = 7
 exit_code status.OutOfMemory = 8
 exit_code status.CutShort = 9
 exit_code status.BadLength = 10
+exit_code status.NotEmpty = 12
 
 -- the word for a status; a damage has its kind and its place behind it
 abbrev pub status_word : Status → List ℕ
@@ -63,3 +67,20 @@ status_word status.TooLong = codes "too long"
 status_word status.OutOfMemory = codes "out of memory"
 status_word status.CutShort = codes "cut short"
 status_word status.BadLength = codes "bad length"
+status_word status.NotEmpty = codes "not empty"
+
+-- the plan of a session
+abbrev pub IsSession : Option Plan → Type 0
+IsSession (Some (plan.Session path)) = ⊤
+IsSession (Some (plan.Init path block guid signature)) = ⊥
+IsSession (Some (plan.Check path)) = ⊥
+IsSession (Some (plan.Dump path)) = ⊥
+IsSession None = ⊥
+
+-- a plan that writes to its file
+abbrev pub Writes : Option Plan → Type 0
+Writes (Some (plan.Session path)) = ⊤
+Writes (Some (plan.Init path block guid signature)) = ⊤
+Writes (Some (plan.Check path)) = ⊥
+Writes (Some (plan.Dump path)) = ⊥
+Writes None = ⊥

@@ -1,54 +1,126 @@
 -- What the command `session` does.
-use Rattle.std.specs.Prelude.{◌≡◌, ◌⊎◌, ℕ, IsTrue, List, [], nat_le, length, take}
+use Rattle.std.specs.Prelude.{◌≡◌, ◌≤◌, ◌⊎◌, ⊤, ℕ, IsTrue, true, List, [], Contains, Some, is_some, Result, Ok, Err, nat_le, length, take}
+use Rattle.srv_edge.specs.declared.device.Device as device
 use Rattle.srv_edge.specs.declared.failed.SessionEnd.{SessionEnd}
 use Rattle.srv_edge.specs.declared.failed.SessionEnd.TheVariants.{ReadFault, WriteFault}
-use Rattle.srv_edge.specs.declared.limit.TheConstants.{MOST_BYTES, MOST_NAME_BYTES, MOST_RECORDS}
 use Rattle.srv_edge.specs.declared.sink.Sink as sink
 use Rattle.srv_edge.specs.declared.source.Source as source
-use Rattle.srv_edge.specs.Count.{HasCause, Rose}
+use Rattle.srv_edge.specs.Count.{HasCause, Rose, RoseBy}
+use Rattle.srv_edge.specs.Disk.{LeavesOnly}
 use Rattle.srv_edge.specs.Exchange.{CameFrom, WentTo}
 use Rattle.srv_edge.specs.Frames.{AreFrames, Frame, Tail}
+use Rattle.srv_edge.specs.Reading.{OnlyReads}
+use Rattle.msf_image.specs.declared.fault.Damage.{Damage}
 use Rattle.request_frames.specs.Serving.{EndsByInput, end_of}
 use Rattle.request_frames.specs.Session.{IsInputEnd, IsSession}
 use Rattle.request_frames.specs.Talk.{disk_faults}
+use Rattle.table_model.specs.Bounds.{standard}
+use Rattle.table_model.specs.Cut.{Cut}
+use Rattle.type_store.specs.Commits.{Holds, HoldsOne, cut_told, held_in}
 use Rattle.table_model.specs.Tables.{Tables}
-use Rattle.client_session.specs.Tables.{Answers}
+use Rattle.type_store.specs.Files.{FileView, HasBounds}
+use Rattle.type_store.specs.Opened.{HasShape}
+use Rattle.type_store.specs.Shape.{Shape}
+use Rattle.hub.specs.Books.{BookView}
+use Rattle.client_session.specs.Commits.{faults_of, loans_of}
+use Rattle.client_session.specs.Course.{Answers, Course, course_from}
+use Rattle.client_session.specs.Served.{IsServed}
 use Rattle.mspdbsrv.specs.declared.commands.session.TheConstants.{SESSION_BYTES}
 use Rattle.mspdbsrv.specs.declared.status.Status.{Status}
-use Rattle.mspdbsrv.specs.declared.status.Status.TheVariants.{OutOfMemory}
-use Rattle.mspdbsrv.specs.Run.{IsEarly, status_of}
+use Rattle.mspdbsrv.specs.declared.status.Status.TheVariants as status
+use Rattle.mspdbsrv.specs.Run.{IsUnread, IsUnsent, status_of}
 
--- the tables before the first request: they are empty, and hold as much as tables may
-abbrev pub first_tables : Tables
-first_tables = record {
-  types = record { max_records = MOST_RECORDS; max_bytes = MOST_BYTES; records = [] };
-  items = record { max_records = MOST_RECORDS; max_bytes = MOST_BYTES; records = [] };
-  names = record { max_bytes = MOST_NAME_BYTES; version = 1; names = [] };
-}
+-- The file tells of the status of a session that did not begin: memory is wanted, the device failed, or it has this damage.
+abbrev pub IsUnserved : Result Cut Damage → Status → Type 0
+IsUnserved told status.OutOfMemory = ⊤
+IsUnserved told status.DiskFault = ⊤
+IsUnserved told (status.Damage kind place) = told ≡ Err (record { kind = kind; place = place })
+IsUnserved told other = ⊥
 
--- A source and a sink are served over empty tables: these bytes were read and these sent, and they are a session of the
--- one-thread table.
-pub record ServesBoth {S K : Type 0} (s : source.Ghosts S) (k : sink.Ghosts K) (from from' : S) (to to' : K) (end : SessionEnd) : Type 0 where
-  pub tables : Tables
+-- the same where the device tells its file
+abbrev pub MayNotServe : Status → Type 0
+MayNotServe status.OutOfMemory = ⊤
+MayNotServe status.DiskFault = ⊤
+MayNotServe (status.Damage kind place) = ⊤
+MayNotServe other = ⊥
+
+-- the status of a session by what the file holds, and how its input ends
+abbrev pub status_by : Result Cut Damage → SessionEnd → Status
+status_by (Ok cut) end = status_of end
+status_by (Err damage) end = status.Damage damage.kind damage.place
+
+-- A source and a sink were served over a book: these bytes came and these went, and they are a session of each course in which
+-- the book stood.
+pub record ServesBook {D S K : Type 0} (d : device.Ghosts D) (s : source.Ghosts S) (k : sink.Ghosts K) (old new : BookView D) (from from' : S) (to to' : K) (end : SessionEnd) : Type 0 where
   pub read : List ℕ
   pub sent : List ℕ
-  pub session : IsSession Answers 1 SESSION_BYTES first_tables tables read sent end
-  pub no_disk_faults : disk_faults session.replies ≡ 0
+  pub served : IsServed d SESSION_BYTES old new read sent end
   pub came : CameFrom s read from from'
   pub went : WentTo k sent to to'
-  -- where the input ended, nothing is left in a source that tells it
   pub none_left : IsInputEnd end → IsTrue s.tells → s.left from' ≡ []
   pub reads : HasCause (end ≡ ReadFault) (s.faults from) (s.faults from')
   pub writes : HasCause (end ≡ WriteFault) (k.faults to) (k.faults to')
   pub ends : EndsByInput s.tells SESSION_BYTES (s.left from) (Rose (s.faults from) (s.faults from')) (Rose (k.faults to) (k.faults to')) end
+  pub never_falls : faults_of d.fault_count old.file ≤ faults_of d.fault_count new.file
+  pub loans : loans_of d.loans new.file ≡ loans_of d.loans old.file
+  pub file_there : is_some new.file ≡ true
 
--- A run of the command: it ended early, or it served its source and its sink and ended as they did.
-abbrev pub RunsSession : {S K : Type 0} → source.Ghosts S → sink.Ghosts K → S → S → K → K → Status → Type 0
-RunsSession s k from from' to to' status = IsEarly status ⊎ ((end : SessionEnd) × (status ≡ status_of end) × ServesBoth s k from from' to to' end)
+-- the book of a file that was just opened, with its tables
+abbrev pub book_of : {D : Type 0} → FileView D → Tables → BookView D
+book_of v tables = record { tables = tables; file = Some v; acked = v.last }
 
--- Where neither the source nor the sink failed, the input alone says the status, but for want of memory.
-abbrev pub CompletesSession : {S K : Type 0} → source.Ghosts S → sink.Ghosts K → S → S → K → K → Status → Type 0
-CompletesSession s k from from' to to' status =
-    IsTrue s.tells → ¬ Rose (s.faults from) (s.faults from') → ¬ Rose (k.faults to) (k.faults to')
-    → (frames : List Frame) (tail : Tail) → AreFrames 1 (take SESSION_BYTES (s.left from)) frames tail
-    → (status ≡ OutOfMemory) ⊎ (status ≡ status_of (end_of (nat_le SESSION_BYTES (length (s.left from))) tail))
+-- the same over a file that was just opened, whose device is handed back
+pub record ServesOver {D S K : Type 0} (d : device.Ghosts D) (s : source.Ghosts S) (k : sink.Ghosts K) (v : FileView D) (tables : Tables) (file' : D) (from from' : S) (to to' : K) (end : SessionEnd) : Type 0 where
+  pub book : BookView D
+  pub view : FileView D
+  pub there : book.file ≡ Some view
+  pub device_is : view.device ≡ file'
+  pub serves : ServesBook d s k (book_of v tables) book from from' to to' end
+
+module _ {D S K : Type 0} (d : device.Ghosts D) (s : source.Ghosts S) (k : sink.Ghosts K) (file file' : D) (from from' : S) (to to' : K) (answer : Status) where
+  -- No session began: nothing came and nothing went, and the file was read alone. Damage is the file's first.
+  pub record StaysIdle : Type 0 where
+    pub answered : MayNotServe answer
+    pub told : IsTrue d.tells → IsUnserved (cut_told standard (held_in standard (d.seen file))) answer
+    pub unread : IsUnread s from from'
+    pub unsent : IsUnsent k to to'
+    pub only_reads : OnlyReads d file file'
+
+  -- A session over the commit that the file held: these bytes came and these went, and they are a session of its tables, whose
+  -- commits go to the file.
+  pub record ServesFile : Type 0 where
+    pub cut : Cut
+    pub bounds : HasBounds standard cut.tables
+    pub holds : IsTrue d.tells → Holds standard (d.seen file) cut
+    pub shape : Shape
+    pub shape_is : IsTrue d.tells → HasShape standard (d.seen file) shape
+    pub course : Course
+    pub read : List ℕ
+    pub sent : List ℕ
+    pub end : SessionEnd
+    pub session : IsSession (Answers standard.blocks shape) 1 SESSION_BYTES (course_from cut) course read sent end
+    pub answered : answer ≡ status_of end
+    pub came : CameFrom s read from from'
+    pub went : WentTo k sent to to'
+    -- where the input ended, nothing is left in a source that tells it
+    pub none_left : IsInputEnd end → IsTrue s.tells → s.left from' ≡ []
+    pub reads : HasCause (end ≡ ReadFault) (s.faults from) (s.faults from')
+    pub writes : HasCause (end ≡ WriteFault) (k.faults to) (k.faults to')
+    pub ends : EndsByInput s.tells SESSION_BYTES (s.left from) (Rose (s.faults from) (s.faults from')) (Rose (k.faults to) (k.faults to')) end
+    -- no more replies are faults of the device than it had
+    pub few_faults : RoseBy (disk_faults session.replies) (d.fault_count file) (d.fault_count file')
+    -- A crash at any moment leaves what it might have left at the start, or a file that holds one of the cuts of the session.
+    pub any_moment : LeavesOnly d.moment d.left_since file file' (λ image. d.may_leave file image ⊎ HoldsOne standard (Contains course.begun) image)
+    -- What a crash leaves behind it holds a cut that all its requests and replies allow: the last acknowledged, or one that began later.
+    pub now : (image : List ℕ) → d.may_leave file' image → HoldsOne standard (Contains course.allowed) image
+
+  -- a run of the command
+  abbrev pub RunsSession : Type 0
+  RunsSession = StaysIdle ⊎ ServesFile
+
+  -- Where nothing failed, the file and the input alone say the status, but for want of memory.
+  abbrev pub CompletesSession : Type 0
+  CompletesSession =
+      IsTrue s.tells → IsTrue d.tells → ¬ Rose (s.faults from) (s.faults from') → ¬ Rose (k.faults to) (k.faults to') → ¬ Rose (d.fault_count file) (d.fault_count file')
+      → (frames : List Frame) (tail : Tail) → AreFrames 1 (take SESSION_BYTES (s.left from)) frames tail
+      → (answer ≡ status.OutOfMemory) ⊎ (answer ≡ status_by (cut_told standard (held_in standard (d.seen file))) (end_of (nat_le SESSION_BYTES (length (s.left from))) tail))

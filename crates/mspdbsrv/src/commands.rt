@@ -1,5 +1,10 @@
 //! The commands, a file each.
 
+#[cfg(test)]
+mod commit_tests;
+pub mod init;
+#[cfg(test)]
+mod running;
 pub mod session;
 #[cfg(test)]
 mod session_tests;

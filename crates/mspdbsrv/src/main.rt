@@ -10,7 +10,7 @@ use crate::status::Status;
 pub use command_words::{Plan, Usage, Word, plan_of};
 use srv_edge::{FileDevice, StdIn, StdOut};
 use std::alloc::Global;
-use std::fs::File;
+use std::fs::{File, OpenOptions, TryLockError};
 use std::hash::RandomState;
 use std::process::ExitCode;
 use std::rt::Env;
@@ -32,26 +32,63 @@ fn words_of<R: Env + Alloc<A = Global>>(rt: &R) -> Result<Vec<Word>, Status> {
     Ok(words)
 }
 
-// The file that a plan names, or one that fails at every call, where it names none.
+// What a command does with its file.
+#[derive(Clone, Copy, Debug, PartialEq, Eq)]
+enum Access {
+    Read,
+    Write,
+    /// Write, and make it where it is not there.
+    Make,
+}
+
+// The file that a plan names, or one that fails at every call, where it cannot be had.
 fn device_of(rt: &HostRuntime, plan: &Plan) -> Result<FileDevice<File>, Status> {
-    match plan {
-        Plan::Check { path } | Plan::Dump { path } => open(rt, path.as_str()),
-        Plan::Session => Ok(FileDevice::absent()),
+    let (path, access) = match plan {
+        Plan::Check { path } | Plan::Dump { path } => (path, Access::Read),
+        Plan::Session { path } => (path, Access::Write),
+        Plan::Init { path, .. } => (path, Access::Make),
+    };
+    match open(rt, path.as_str(), access) {
+        Ok(Some(file)) => Ok(FileDevice::new(file)),
+        Ok(None) => Ok(FileDevice::absent()),
+        Err(e) if e.kind() == io::ErrorKind::OutOfMemory => Err(Status::OutOfMemory),
+        Err(_) => Ok(FileDevice::absent()),
     }
 }
 
-// A regular file opened for reading. What is no regular file is not opened, since to open a pipe
-// may wait for a writer; it fails at every call, as does what cannot be opened.
-fn open(rt: &HostRuntime, path: &str) -> Result<FileDevice<File>, Status> {
-    let file = match fs::metadata(rt, path) {
-        Ok(metadata) if metadata.is_file() => File::open(rt, path),
-        Ok(_) => return Ok(FileDevice::absent()),
+// Opens a regular file. One that is written is locked, so that two servers or sessions do not write
+// it at a time; where another has the lock, it cannot be had.
+fn open(rt: &HostRuntime, path: &str, access: Access) -> io::Result<Option<File>> {
+    if !is_regular(rt, path, access)? {
+        return Ok(None);
+    }
+    let mut options = OpenOptions::new();
+    let file = options
+        .read(true)
+        .write(access != Access::Read)
+        .create(access == Access::Make)
+        .open(rt, path)?;
+    match access {
+        Access::Read => Ok(Some(file)),
+        Access::Write | Access::Make => Ok(locked(file)),
+    }
+}
+
+// Whether a regular file stands at a path, or is to be made there. No other is opened, since to open a
+// pipe may wait for a writer.
+fn is_regular(rt: &HostRuntime, path: &str, access: Access) -> io::Result<bool> {
+    match fs::metadata(rt, path) {
+        Ok(metadata) => Ok(metadata.is_file()),
+        Err(e) if access == Access::Make && e.kind() == io::ErrorKind::NotFound => Ok(true),
         Err(e) => Err(e),
-    };
-    match file {
-        Ok(file) => Ok(FileDevice::new(file)),
-        Err(e) if e.kind() == io::ErrorKind::OutOfMemory => Err(Status::OutOfMemory),
-        Err(_) => Ok(FileDevice::absent()),
+    }
+}
+
+// Locks a file, unless another has its lock. Where the system keeps no locks it goes without.
+fn locked(file: File) -> Option<File> {
+    match file.try_lock() {
+        Ok(()) | Err(TryLockError::Error(_)) => Some(file),
+        Err(TryLockError::WouldBlock) => None,
     }
 }
 

@@ -1,22 +1,24 @@
-ghost use Rattle.std.specs.Prelude.{◌≡◌, ◌≢◌, ◌⊎◌, ℕ, List, None, Some};
+ghost use Rattle.std.specs.Prelude.{◌≡◌, ◌⊎◌, ℕ, List, None, Some};
 ghost use Rattle.command_words.specs.Forms.{form_of};
 ghost use Rattle.srv_edge.specs.Count.{HasCause};
 ghost use Rattle.srv_edge.specs.Reading.{OnlyReads};
 ghost use Rattle.mspdbsrv.specs.Printed.{CompletesPrinting, PrintsFile};
-ghost use Rattle.mspdbsrv.specs.Run.{IsEarly, IsUnread, IsUnsent};
+ghost use Rattle.mspdbsrv.specs.Making.{CompletesInit, RunsInit};
+ghost use Rattle.mspdbsrv.specs.Run.{IsEarly, IsSession, IsUnread, IsUnsent, Writes};
 ghost use Rattle.mspdbsrv.specs.Session.{CompletesSession, RunsSession};
 
+use crate::commands::init::{NewFile, init};
 use crate::commands::session::session;
 use crate::commands::show::{Detail, show};
 use crate::status::Status;
-use command_words::{Plan, Usage, Word, plan_of};
+use command_words::{Plan, Usage, Word, plan_of, plans_have_words};
 use srv_edge::{Device, Sink, Source};
 use std::alloc::Global;
 use std::hash::RandomState;
 
-/// Does what the words ask for, and hands the device back. `session` makes its tables and its
-/// buffers before it reads, and does not touch the device; `check` and `dump` read the device alone,
-/// and write nothing to it. The keys are those by which names are found in memory.
+/// Does what the words ask for, and hands the device back. `init` and `session` write to the device;
+/// `check` and `dump` read it alone. `session` makes its buffers and its tables before it reads its
+/// input. The keys are those by which names are found in memory.
 pub fn run<S: Source, K: Sink, D: Device>(
     alloc: Global,
     keys: RandomState,
@@ -30,9 +32,15 @@ pub fn run<S: Source, K: Sink, D: Device>(
     ensures no_form { form_of words.now ≡ None
         → (result.0 ≡ Status.Usage) ⊎ (result.0 ≡ Status.OutOfMemory) }
 
-    // In `session` these bytes came and these went, and they are a session over empty tables.
-    ensures session { form_of words.now ≡ Some Plan.Session
-        → RunsSession S.Source K.Sink source.old source.new sink.old sink.new result.0 }
+    // In `session` these bytes came and these went, and they are a session over the file's tables.
+    ensures session { (path : List ℕ) → form_of words.now ≡ Some (Plan.Session path)
+        → RunsSession D.Device S.Source K.Sink
+        device result.1 source.old source.new sink.old sink.new result.0 }
+    // In `init` the device gets the new file, and its two lines went.
+    ensures init { (path : List ℕ) (block : ℕ) (guid : List ℕ) (signature : ℕ)
+        → form_of words.now ≡ Some (Plan.Init path block guid signature)
+        → RunsInit D.Device K.Sink block guid signature
+        device result.1 sink.old sink.new result.0 }
 
     // In `check` the two lines went of the commit that the file holds, or that of its first damage.
     ensures check { (path : List ℕ) → form_of words.now ≡ Some (Plan.Check path)
@@ -42,29 +50,50 @@ pub fn run<S: Source, K: Sink, D: Device>(
         → PrintsFile D.Device K.Sink Detail.All device sink.old sink.new result.0 }
     ensures nothing_read { IsEarly result.0 → IsUnread S.Source source.old source.new }
     ensures nothing_given { IsEarly result.0 → IsUnsent K.Sink sink.old sink.new }
-    ensures source_untouched { form_of words.now ≢ Some Plan.Session → source.new ≡ source.old }
-    ensures device_untouched { ((path : List ℕ) → form_of words.now ≢ Some (Plan.Check path))
-        → ((path : List ℕ) → form_of words.now ≢ Some (Plan.Dump path)) → result.1 ≡ device }
+    ensures source_untouched { (¬ IsSession (form_of words.now)) → source.new ≡ source.old }
+    ensures device_untouched { form_of words.now ≡ None → result.1 ≡ device }
     ensures reads { HasCause (result.0 ≡ Status.ReadFault)
         (S.faults source.old) (S.faults source.new) }
     ensures writes { HasCause (result.0 ≡ Status.WriteFault)
         (K.faults sink.old) (K.faults sink.new) }
     ensures disk { HasCause (result.0 ≡ Status.DiskFault)
         (D.fault_count device) (D.fault_count result.1) }
-    // No command changes the file, and a crash at any moment leaves what it might have left at the
-    // start.
-    ensures only_reads { OnlyReads D.Device device result.1 }
+    // No other command changes the file, and a crash at any moment of it leaves what it might have
+    // left at the start.
+    ensures only_reads { (¬ Writes (form_of words.now)) → OnlyReads D.Device device result.1 }
+    ensures loans { D.loans result.1 ≡ D.loans device }
 
-    // Where nothing fails, the input alone says how a session ends, and the file how the others end.
-    ensures session_completes { form_of words.now ≡ Some Plan.Session
-        → CompletesSession S.Source K.Sink source.old source.new sink.old sink.new result.0 }
+    // Where nothing fails, the file and the input alone say how a command ends.
+    ensures session_completes { (path : List ℕ) → form_of words.now ≡ Some (Plan.Session path)
+        → CompletesSession D.Device S.Source K.Sink
+        device result.1 source.old source.new sink.old sink.new result.0 }
+    ensures init_completes { (path : List ℕ) (block : ℕ) (guid : List ℕ) (signature : ℕ)
+        → form_of words.now ≡ Some (Plan.Init path block guid signature)
+        → CompletesInit D.Device K.Sink device result.1 sink.old sink.new result.0 }
     ensures check_completes { (path : List ℕ) → form_of words.now ≡ Some (Plan.Check path)
         → CompletesPrinting D.Device K.Sink device result.1 sink.old sink.new result.0 }
     ensures dump_completes { (path : List ℕ) → form_of words.now ≡ Some (Plan.Dump path)
         → CompletesPrinting D.Device K.Sink device result.1 sink.old sink.new result.0 }
 {
     match plan_of(alloc, words) {
-        Ok(Plan::Session) => (session(alloc, keys, source, sink), device),
+        Ok(Plan::Session { .. }) => session(alloc, keys, source, sink, device),
+        Ok(
+            Plan::Init {
+                block,
+                guid,
+                signature,
+                ..
+            },
+        ) => {
+            // The words gave a size that blocks may have.
+            plans_have_words();
+            let new = NewFile {
+                block,
+                guid,
+                signature,
+            };
+            init(alloc, keys, new, sink, device)
+        }
         Ok(Plan::Check { .. }) => show(alloc, keys, Detail::Lines, sink, device),
         Ok(Plan::Dump { .. }) => show(alloc, keys, Detail::All, sink, device),
         Err(Usage::NotAForm) => (Status::Usage, device),

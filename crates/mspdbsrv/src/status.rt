@@ -27,6 +27,8 @@ pub enum Status {
     CutShort,
     /// A frame's length is 0 or over 65,537.
     BadLength,
+    /// The device of a new file has bytes already.
+    NotEmpty,
 }
 
 impl Status {
@@ -45,6 +47,7 @@ impl Status {
             Status::OutOfMemory => 8,
             Status::CutShort => 9,
             Status::BadLength => 10,
+            Status::NotEmpty => 12,
         }
     }
 
@@ -63,6 +66,7 @@ impl Status {
             Status::OutOfMemory => "out of memory",
             Status::CutShort => "cut short",
             Status::BadLength => "bad length",
+            Status::NotEmpty => "not empty",
         }
     }
 }

@@ -1,76 +1,104 @@
-//! The command `session`: standard input and output served over empty tables in memory.
+//! The command `session`: standard input and output served over the tables of a file.
 
-ghost use Rattle.std.specs.Prelude.{◌≡◌, ◌≢◌, IfOk};
+ghost use Rattle.std.specs.Prelude.{◌≡◌, ◌≢◌, is_some, true};
 ghost use Rattle.srv_edge.specs.Count.{HasCause};
-ghost use Rattle.mspdbsrv.specs.Run.{IsEarly, IsUnread, IsUnsent};
-ghost use Rattle.mspdbsrv.specs.Session.{CompletesSession, RunsSession, ServesBoth, first_tables};
+ghost use Rattle.table_model.specs.Bounds.{standard};
+ghost use Rattle.type_store.specs.Opened.{IsOpened};
+ghost use Rattle.type_store.specs.Views.{tables_in};
+ghost use Rattle.mspdbsrv.specs.Session.{CompletesSession, RunsSession, ServesBook, ServesOver};
 
+use crate::commands::show::status_of_fault;
 use crate::status::{Status, status_of_end};
-use client_session::Bare;
+use client_session::Solo;
+use hub::Book;
 use request_frames::serve_link;
-use srv_edge::{Both, Limits, Room, SessionEnd, Sink, Source};
-use std::alloc::{AllocError, Global};
+use srv_edge::{Both, Device, Limits, Room, SessionEnd, Sink, Source};
+use std::alloc::Global;
 use std::hash::RandomState;
+use type_store::{PdbFile, Tables};
 
 /// The most bytes that a session reads.
 pub const SESSION_BYTES: u64 = 4_294_967_296;
 
-/// Serves the source and the sink over empty tables.
-pub(crate) fn session<S: Source, K: Sink>(
+/// Opens the file of a device, serves the source and the sink over its tables, and hands the device
+/// back. The keys are those by which names are found in memory.
+pub(crate) fn session<S: Source, K: Sink, D: Device>(
     alloc: Global,
     keys: RandomState,
     source: &mut S,
     sink: &mut K,
-) -> Status
-    ensures session { RunsSession S.Source K.Sink
-        source.old source.new sink.old sink.new result }
-    ensures nothing_read { IsEarly result → IsUnread S.Source source.old source.new }
-    ensures nothing_given { IsEarly result → IsUnsent K.Sink sink.old sink.new }
-    ensures no_usage { result ≢ Status.Usage }
-    ensures no_disk_fault { result ≢ Status.DiskFault }
-    ensures reads { HasCause (result ≡ Status.ReadFault)
+    device: D,
+) -> (Status, D)
+    ensures session { RunsSession D.Device S.Source K.Sink
+        device result.1 source.old source.new sink.old sink.new result.0 }
+    ensures completes { CompletesSession D.Device S.Source K.Sink
+        device result.1 source.old source.new sink.old sink.new result.0 }
+    ensures no_usage { result.0 ≢ Status.Usage }
+    ensures no_bytes { result.0 ≢ Status.NotEmpty }
+    ensures reads { HasCause (result.0 ≡ Status.ReadFault)
         (S.faults source.old) (S.faults source.new) }
-    ensures writes { HasCause (result ≡ Status.WriteFault)
+    ensures writes { HasCause (result.0 ≡ Status.WriteFault)
         (K.faults sink.old) (K.faults sink.new) }
-    ensures completes { CompletesSession S.Source K.Sink
-        source.old source.new sink.old sink.new result }
+    ensures disk { HasCause (result.0 ≡ Status.DiskFault)
+        (D.fault_count device) (D.fault_count result.1) }
+    ensures loans { D.loans result.1 ≡ D.loans device }
 {
-    match make_desk(alloc, keys) {
-        Ok((mut desk, mut room)) => { status_of_end(serve(source, sink, &mut desk, &mut room)) }
-        Err(_) => Status::OutOfMemory,
+    let Ok(mut room) = Room::new(alloc) else {
+        return (Status::OutOfMemory, device);
+    };
+    match PdbFile::open(alloc, keys, device, Limits::STANDARD) {
+        Ok((file, tables)) => {
+            let (end, device) = serve_file(alloc, source, sink, file, tables, &mut room);
+            (status_of_end(end), device)
+        }
+        Err((fault, device)) => (status_of_fault(fault), device),
     }
 }
 
-// A desk over empty tables, and the buffers of its session.
-fn make_desk(alloc: Global, keys: RandomState) -> Result<(Bare, Room), AllocError>
-    ensures { IfOk result (λ made. made.0 ≡ first_tables) }
-{
-    let desk = Bare::new(alloc, keys, Limits::STANDARD)?;
-    let room = Room::new(alloc)?;
-    Ok((desk, room))
-}
-
-// Serves a source and a sink as one link.
-fn serve<S: Source, K: Sink>(
+// Serves a source and a sink over a file that was just opened.
+fn serve_file<S: Source, K: Sink, D: Device>(
+    alloc: Global,
     source: &mut S,
     sink: &mut K,
-    desk: &mut Bare,
+    file: PdbFile<D>,
+    tables: Tables,
     room: &mut Room,
-) -> SessionEnd
-    requires { desk.old ≡ first_tables }
-    ensures { ServesBoth S.Source K.Sink source.old source.new sink.old sink.new result }
+) -> (SessionEnd, D)
+    requires opened { IsOpened standard (D.seen file.device) file (tables_in tables) }
+    ensures { ServesOver D.Device S.Source K.Sink file (tables_in tables) result.1
+        source.old source.new sink.old sink.new result.0 }
 {
-    serve_both(&mut Both { source, sink }, desk, room)
+    let mut book = Book::new(file, tables);
+    let end = serve_book(alloc, source, sink, &mut book, room);
+    let Book { file, .. } = book;
+    let Some(file) = file else { unreachable!() };
+    (end, file.close())
 }
 
-fn serve_both<'a, S: Source, K: Sink>(
-    link: &mut Both<'a, S, K>,
-    desk: &mut Bare,
+// Serves a source and a sink as one link, over a book.
+fn serve_book<S: Source, K: Sink, D: Device>(
+    alloc: Global,
+    source: &mut S,
+    sink: &mut K,
+    book: &mut Book<D>,
     room: &mut Room,
 ) -> SessionEnd
-    requires { desk.old ≡ first_tables }
-    ensures serves { ServesBoth S.Source K.Sink
+    requires { is_some book.old.file ≡ true }
+    ensures { ServesBook D.Device S.Source K.Sink book.old book.new
+        source.old source.new sink.old sink.new result }
+{
+    let mut desk = Solo::new(alloc, book);
+    serve_desk(&mut Both { source, sink }, &mut desk, room)
+}
+
+fn serve_desk<'a, 'b, S: Source, K: Sink, D: Device>(
+    link: &mut Both<'a, S, K>,
+    desk: &mut Solo<'b, D>,
+    room: &mut Room,
+) -> SessionEnd
+    ensures serves { ServesBook D.Device S.Source K.Sink desk.old.book.now desk.new.book.now
         link.old.source.now link.new.source.now link.old.sink.now link.new.sink.now result }
+    ensures book_name { desk.new.book.ghost_name ≡ desk.old.book.ghost_name }
     ensures source_name { link.new.source.ghost_name ≡ link.old.source.ghost_name }
     ensures sink_name { link.new.sink.ghost_name ≡ link.old.sink.ghost_name }
 {

@@ -2,10 +2,10 @@
 //! and ff that of a refusal: its code, and its two numbers.
 ghost use Rattle.std.specs.Prelude.{◌<◌, ◌≡◌, true};
 
+use crate::commands::running::{bytes_of, device_with, new_file, words_of};
 use crate::commands::version_tests::in_version_2;
 use crate::run::run;
 use crate::status::Status;
-use command_words::Word;
 use srv_edge::{Failed, FileDevice, MemSink, MemSource, Sink};
 use std::alloc::Global;
 use std::fs::File;
@@ -26,32 +26,22 @@ const TWICE: &str = "050000008200100000050000008200100000";
 // seven.
 pub(crate) const PIECES: [u8; 3] = [255, 0, 6];
 
-// A device that fails at every call, which a session never asks.
-fn no_file() -> FileDevice<File> {
-    FileDevice::absent()
-}
-
-fn session_words(alloc: Global) -> Result<Vec<Word>, Fail> {
-    let mut words = Vec::new(alloc);
-    words.push(Word::new(String::from_str(alloc, "session")?))?;
-    Ok(words)
-}
-
 fn source_of(alloc: Global, input: &str, piece: usize, fail: &[u32]) -> Result<MemSource, Fail>
     requires { 0 < piece }
 {
-    let mut bytes = Vec::new(alloc);
-    for text in input.split_whitespace() {
-        bytes.extend_from_slice(&hex::decode(alloc, text)?)?;
-    }
-    Ok(MemSource::new(bytes, piece, Vec::from_slice(alloc, fail)?))
+    Ok(MemSource::new(
+        bytes_of(alloc, input)?,
+        piece,
+        Vec::from_slice(alloc, fail)?,
+    ))
 }
 
-// The replies of a session as hexadecimal text, and its status, with a source that gives a byte and
-// at most so many more in each call.
+// The replies of a session over a file as hexadecimal text, and its status, with a source that gives
+// a byte and at most so many more in each call.
 pub(crate) fn talk(
     alloc: Global,
     keys: RandomState,
+    file: &[u8],
     input: &str,
     more: u8,
     source_fails: &[u32],
@@ -59,8 +49,9 @@ pub(crate) fn talk(
 ) -> Result<(String, Status), Fail> {
     let mut source = source_of(alloc, input, usize::from(more) + 1, source_fails)?;
     let mut sink = MemSink::new(alloc, Vec::from_slice(alloc, sink_fails)?);
-    let words = session_words(alloc)?;
-    let status = run(alloc, keys, &words, &mut source, &mut sink, no_file()).0;
+    let words = words_of(alloc, "session P")?;
+    let device = device_with(alloc, file, &[])?;
+    let status = run(alloc, keys, &words, &mut source, &mut sink, device).0;
     Ok((hex::encode(alloc, sink.taken())?, status))
 }
 
@@ -76,6 +67,7 @@ pub(crate) fn packed(alloc: Global, text: &str) -> Result<String, Fail> {
 #[test]
 fn records_by_their_bytes(rt: HostRuntime) -> Result<(), Fail> {
     let keys = RandomState::new(&rt)?;
+    let file = new_file(rt.alloc(), keys, "")?;
     let rows = [
         // the first record, twice, and the counts
         (
@@ -144,10 +136,10 @@ fn records_by_their_bytes(rt: HostRuntime) -> Result<(), Fail> {
             "0a000000ff010200010000000000",
             Status::BadLength,
         ),
-        // an unknown kind, and those that are not answered yet
+        // an unknown kind, and a commit with a body
         (
-            "020000006300 0100000008",
-            "0a000000ff026300000000000000 0a000000ff020800000000000000",
+            "020000006300 020000000800",
+            "0a000000ff026300000000000000 0a000000ff030100000000000000",
             Status::Ok,
         ),
         // bodies that are too short, of version 0, and behind a Bye
@@ -166,13 +158,13 @@ fn records_by_their_bytes(rt: HostRuntime) -> Result<(), Fail> {
     for (input, replies, status) in rows {
         let want = packed(rt.alloc(), replies)?;
         for more in PIECES {
-            let (text, got) = talk(rt.alloc(), keys, input, more, &[], &[])?;
+            let (text, got) = talk(rt.alloc(), keys, &file, input, more, &[], &[])?;
             assert_eq!(rt; (text.as_str(), got), (want.as_str(), status), "at {input}");
         }
         if status == Status::Ok {
             let input = in_version_2(rt.alloc(), input)?;
             let want = in_version_2(rt.alloc(), replies)?;
-            let (text, got) = talk(rt.alloc(), keys, input.as_str(), 255, &[], &[])?;
+            let (text, got) = talk(rt.alloc(), keys, &file, input.as_str(), 255, &[], &[])?;
             let text = text.as_str().get(14..);
             assert_eq!(rt;
                 (text, got),
@@ -187,6 +179,7 @@ fn records_by_their_bytes(rt: HostRuntime) -> Result<(), Fail> {
 #[test]
 fn leaves_by_their_bytes(rt: HostRuntime) -> Result<(), Fail> {
     let keys = RandomState::new(&rt)?;
+    let file = new_file(rt.alloc(), keys, "")?;
     let rows = [
         // lists: one that is empty, and one whose count cannot fit
         (
@@ -231,13 +224,13 @@ fn leaves_by_their_bytes(rt: HostRuntime) -> Result<(), Fail> {
     for (input, replies, status) in rows {
         let want = packed(rt.alloc(), replies)?;
         for more in PIECES {
-            let (text, got) = talk(rt.alloc(), keys, input, more, &[], &[])?;
+            let (text, got) = talk(rt.alloc(), keys, &file, input, more, &[], &[])?;
             assert_eq!(rt; (text.as_str(), got), (want.as_str(), status), "at {input}");
         }
         if status == Status::Ok {
             let input = in_version_2(rt.alloc(), input)?;
             let want = in_version_2(rt.alloc(), replies)?;
-            let (text, got) = talk(rt.alloc(), keys, input.as_str(), 255, &[], &[])?;
+            let (text, got) = talk(rt.alloc(), keys, &file, input.as_str(), 255, &[], &[])?;
             let text = text.as_str().get(14..);
             assert_eq!(rt;
                 (text, got),
@@ -252,6 +245,7 @@ fn leaves_by_their_bytes(rt: HostRuntime) -> Result<(), Fail> {
 #[test]
 fn items_and_names_by_their_bytes(rt: HostRuntime) -> Result<(), Fail> {
     let keys = RandomState::new(&rt)?;
+    let file = new_file(rt.alloc(), keys, "")?;
     let rows = [
         // an item, one that names a missing type, and an item sent as a type
         (
@@ -299,13 +293,13 @@ fn items_and_names_by_their_bytes(rt: HostRuntime) -> Result<(), Fail> {
     for (input, replies, status) in rows {
         let want = packed(rt.alloc(), replies)?;
         for more in PIECES {
-            let (text, got) = talk(rt.alloc(), keys, input, more, &[], &[])?;
+            let (text, got) = talk(rt.alloc(), keys, &file, input, more, &[], &[])?;
             assert_eq!(rt; (text.as_str(), got), (want.as_str(), status), "at {input}");
         }
         if status == Status::Ok {
             let input = in_version_2(rt.alloc(), input)?;
             let want = in_version_2(rt.alloc(), replies)?;
-            let (text, got) = talk(rt.alloc(), keys, input.as_str(), 255, &[], &[])?;
+            let (text, got) = talk(rt.alloc(), keys, &file, input.as_str(), 255, &[], &[])?;
             let text = text.as_str().get(14..);
             assert_eq!(rt;
                 (text, got),
@@ -322,8 +316,9 @@ fn items_and_names_by_their_bytes(rt: HostRuntime) -> Result<(), Fail> {
 fn faults_at_each_call(rt: HostRuntime) -> Result<(), Fail> {
     let keys = RandomState::new(&rt)?;
     let alloc = rt.alloc();
+    let file = new_file(alloc, keys, "")?;
     for (call, replies) in [(0, ""), (1, ""), (2, FIRST), (3, FIRST), (4, TWICE)] {
-        let (text, status) = talk(alloc, keys, TWO, 255, &[call], &[])?;
+        let (text, status) = talk(alloc, keys, &file, TWO, 255, &[call], &[])?;
         assert_eq!(rt;
             (text.as_str(), status),
             (replies, Status::ReadFault),
@@ -331,14 +326,14 @@ fn faults_at_each_call(rt: HostRuntime) -> Result<(), Fail> {
         );
     }
     for (call, replies) in [(0, ""), (1, FIRST)] {
-        let (text, status) = talk(alloc, keys, TWO, 255, &[], &[call])?;
+        let (text, status) = talk(alloc, keys, &file, TWO, 255, &[], &[call])?;
         assert_eq!(rt;
             (text.as_str(), status),
             (replies, Status::WriteFault),
             "at {call}"
         );
     }
-    let (text, status) = talk(alloc, keys, TWO, 255, &[5], &[2])?;
+    let (text, status) = talk(alloc, keys, &file, TWO, 255, &[5], &[2])?;
     assert_eq!(rt; (text.as_str(), status), (TWICE, Status::Ok));
     Ok(())
 }
@@ -348,8 +343,9 @@ fn faults_at_each_call(rt: HostRuntime) -> Result<(), Fail> {
 fn faults_between_bytes(rt: HostRuntime) -> Result<(), Fail> {
     let keys = RandomState::new(&rt)?;
     let alloc = rt.alloc();
+    let file = new_file(alloc, keys, "")?;
     for (call, replies) in [(0, ""), (16, ""), (17, FIRST), (33, FIRST), (34, TWICE)] {
-        let (text, status) = talk(alloc, keys, TWO, 0, &[call], &[])?;
+        let (text, status) = talk(alloc, keys, &file, TWO, 0, &[call], &[])?;
         assert_eq!(rt;
             (text.as_str(), status),
             (replies, Status::ReadFault),
@@ -357,7 +353,7 @@ fn faults_between_bytes(rt: HostRuntime) -> Result<(), Fail> {
         );
     }
     for (call, replies) in [(0, ""), (1, FIRST)] {
-        let (text, status) = talk(alloc, keys, TWO, 0, &[], &[call])?;
+        let (text, status) = talk(alloc, keys, &file, TWO, 0, &[], &[call])?;
         assert_eq!(rt;
             (text.as_str(), status),
             (replies, Status::WriteFault),
@@ -367,23 +363,28 @@ fn faults_between_bytes(rt: HostRuntime) -> Result<(), Fail> {
     Ok(())
 }
 
-// Words that are no form read nothing.
+// Words that are no form read nothing, and so does a session over a file that is not there.
 #[test]
-fn other_words_are_no_form(rt: HostRuntime) -> Result<(), Fail> {
+fn nothing_is_read(rt: HostRuntime) -> Result<(), Fail> {
+    let alloc = rt.alloc();
     let keys = RandomState::new(&rt)?;
-    let mut source = source_of(rt.alloc(), ADD, 1000, &[])?;
-    let mut sink = MemSink::new(rt.alloc(), Vec::new(rt.alloc()));
-    let none = Vec::new(rt.alloc());
-    let status = run(rt.alloc(), keys, &none, &mut source, &mut sink, no_file()).0;
-    assert_eq!(rt; status, Status::Usage);
-    let mut two = session_words(rt.alloc())?;
-    two.push(Word::new(String::from_str(rt.alloc(), "P")?))?;
-    let status = run(rt.alloc(), keys, &two, &mut source, &mut sink, no_file()).0;
-    assert_eq!(rt; (status, status.code()), (Status::Usage, 2));
-    let words = session_words(rt.alloc())?;
-    let status = run(rt.alloc(), keys, &words, &mut source, &mut sink, no_file()).0;
+    let mut source = source_of(alloc, ADD, 1000, &[])?;
+    let mut sink = MemSink::new(alloc, Vec::new(alloc));
+    for (line, status) in [
+        ("session", Status::Usage),
+        ("session P Q", Status::Usage),
+        ("session P", Status::DiskFault),
+    ] {
+        let words = words_of(alloc, line)?;
+        let device: FileDevice<File> = FileDevice::absent();
+        let got = run(alloc, keys, &words, &mut source, &mut sink, device).0;
+        assert_eq!(rt; got, status, "{line}");
+    }
+    let words = words_of(alloc, "session P")?;
+    let device = device_with(alloc, &new_file(alloc, keys, "")?, &[])?;
+    let status = run(alloc, keys, &words, &mut source, &mut sink, device).0;
     assert_eq!(rt; (status, status.code()), (Status::Ok, 0));
-    assert_eq!(rt; hex::encode(rt.alloc(), sink.taken())?.as_str(), FIRST);
+    assert_eq!(rt; hex::encode(alloc, sink.taken())?.as_str(), FIRST);
     Ok(())
 }
 
@@ -421,16 +422,17 @@ fn one_byte_a_give(rt: HostRuntime) -> Result<(), Fail> {
         taken: Vec::new(rt.alloc()),
         faults: 0,
     };
-    let words = session_words(rt.alloc())?;
-    let status = run(rt.alloc(), keys, &words, &mut source, &mut sink, no_file()).0;
+    let words = words_of(rt.alloc(), "session P")?;
+    let device = device_with(rt.alloc(), &new_file(rt.alloc(), keys, "")?, &[])?;
+    let status = run(rt.alloc(), keys, &words, &mut source, &mut sink, device).0;
     assert_eq!(rt; status, Status::Ok);
     let text = hex::encode(rt.alloc(), sink.taken.as_slice())?;
     assert_eq!(rt; text.as_str(), TWICE);
     Ok(())
 }
 
-// The replies of a session whose input begins so and then has so many bytes of one kind, and its
-// end.
+// The replies of a session over a new file whose input begins so and then has so many bytes of one
+// kind, and its end.
 pub(crate) fn talk_of(
     alloc: Global,
     keys: RandomState,
@@ -445,8 +447,9 @@ pub(crate) fn talk_of(
     bytes.extend_from_slice(&hex::decode(alloc, end)?)?;
     let mut source = MemSource::new(bytes, 65_536, Vec::new(alloc));
     let mut sink = MemSink::new(alloc, Vec::new(alloc));
-    let words = session_words(alloc)?;
-    let status = run(alloc, keys, &words, &mut source, &mut sink, no_file()).0;
+    let words = words_of(alloc, "session P")?;
+    let device = device_with(alloc, &new_file(alloc, keys, "")?, &[])?;
+    let status = run(alloc, keys, &words, &mut source, &mut sink, device).0;
     Ok((hex::encode(alloc, sink.taken())?, status))
 }
 

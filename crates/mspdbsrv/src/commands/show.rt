@@ -44,6 +44,7 @@ pub(crate) fn show<K: Sink, D: Device>(
         (D.fault_count device) (D.fault_count result.1) }
     ensures no_usage { result.0 ≢ Status.Usage }
     ensures no_read_fault { result.0 ≢ Status.ReadFault }
+    ensures no_bytes { result.0 ≢ Status.NotEmpty }
     ensures only_reads { OnlyReads D.Device device result.1 }
 {
     match PdbFile::open(alloc, keys, device, Limits::STANDARD) {
@@ -55,8 +56,8 @@ pub(crate) fn show<K: Sink, D: Device>(
     }
 }
 
-// Prints a file that holds these tables.
-fn show_file<K: Sink, D: Device>(
+/// Prints a file that holds these tables.
+pub(crate) fn show_file<K: Sink, D: Device>(
     alloc: Global,
     what: Detail,
     sink: &mut K,
@@ -89,8 +90,8 @@ fn show_fault<K: Sink>(alloc: Global, sink: &mut K, fault: OpenFault) -> Status
     }
 }
 
-// Prints a text, after which the status is this.
-fn print<K: Sink>(sink: &mut K, text: &[u8], status: Status) -> Status
+/// Prints a text, after which the status is this.
+pub(crate) fn print<K: Sink>(sink: &mut K, text: &[u8], status: Status) -> Status
     ensures printed { Prints K.Sink text.now status sink.old sink.new result }
     ensures writes { HasCause (result ≢ status) (K.faults sink.old) (K.faults sink.new) }
 {
@@ -127,8 +128,8 @@ fn text_of_fault(alloc: Global, fault: OpenFault) -> Result<Vec<u8>, AllocError>
     }
 }
 
-// The status behind that text.
-fn status_of_fault(fault: OpenFault) -> Status
+/// The status behind that text.
+pub(crate) fn status_of_fault(fault: OpenFault) -> Status
     ensures { result ≡ status_of_fault fault }
 {
     match fault {

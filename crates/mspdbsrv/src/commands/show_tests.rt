@@ -378,9 +378,9 @@ fn no_file_and_no_form(rt: HostRuntime) -> Result<(), Fail> {
         ("check", "", Status::Usage),
         ("check", "-x", Status::Usage),
         ("check", "--", Status::Usage),
-        ("session", "P", Status::Usage),
+        ("session", "P", Status::DiskFault),
         ("dump", "P", Status::DiskFault),
-        ("init", "P", Status::Usage),
+        ("init", "P", Status::DiskFault),
     ];
     for (command, path, want) in rows {
         let mut source = MemSource::new(Vec::new(rt.alloc()), 1, Vec::new(rt.alloc()));

@@ -1,5 +1,6 @@
 //! Sessions in version 2: tags and lists of records, by their bytes.
 
+use crate::commands::running::new_file;
 use crate::commands::session_tests::{PIECES, packed, talk, talk_of};
 use crate::status::Status;
 use srv_edge::{word, word_at};
@@ -44,6 +45,7 @@ pub(crate) fn in_version_2(alloc: Global, frames: &str) -> Result<String, Fail> 
 #[test]
 fn versions_tags_and_lists(rt: HostRuntime) -> Result<(), Fail> {
     let keys = RandomState::new(&rt)?;
+    let file = new_file(rt.alloc(), keys, "")?;
     let rows = [
         // to version 2, the counts, and a list of one record twice
         (
@@ -112,7 +114,7 @@ fn versions_tags_and_lists(rt: HostRuntime) -> Result<(), Fail> {
     for (input, replies, status) in rows {
         let want = packed(rt.alloc(), replies)?;
         for more in PIECES {
-            let (text, got) = talk(rt.alloc(), keys, input, more, &[], &[])?;
+            let (text, got) = talk(rt.alloc(), keys, &file, input, more, &[], &[])?;
             assert_eq!(rt; (text.as_str(), got), (want.as_str(), status), "at {input}");
         }
     }

@@ -1,12 +1,22 @@
+use Rattle.std.proofs.Common.{subst}
+use Rattle.command_words.specs.Forms.{IsPlan}
 use Rattle.mspdbsrv.specs.declared.commands.show.Detail.TheVariants as detail
 use Rattle.mspdbsrv.proofs.Printing.{nothing_printed}
 use Rattle.mspdbsrv.proofs.run.run.Goals as goal
 
 pub returns-in-Ok-Check-clause-session_completes : goal.returns-in-Ok-Check-clause-session_completes
-returns-in-Ok-Check-clause-session_completes g c = λ is. absurd (cc (c.in-Ok-Check.ensures, c.in-Ok-Check.field-0-is, is))
+returns-in-Ok-Check-clause-session_completes g c = λ path is. absurd (cc (c.in-Ok-Check.ensures, c.in-Ok-Check.field-0-is, is))
 
 pub returns-in-Ok-Dump-clause-session_completes : goal.returns-in-Ok-Dump-clause-session_completes
-returns-in-Ok-Dump-clause-session_completes g c = λ is. absurd (cc (c.in-Ok-Dump.ensures, c.in-Ok-Dump.field-0-is, is))
+returns-in-Ok-Dump-clause-session_completes g c = λ path is. absurd (cc (c.in-Ok-Dump.ensures, c.in-Ok-Dump.field-0-is, is))
+
+pub returns-in-Ok-Init-clause-session_completes : goal.returns-in-Ok-Init-clause-session_completes
+returns-in-Ok-Init-clause-session_completes g c = λ path is. absurd (cc (c.in-Ok-Init.ensures, is))
+
+pub init-requires : goal.init-requires
+init-requires g c =
+    let plan = c.plans_have_words.ensures.only c.args.words.now c.in-Ok-Init.field-0 c.in-Ok-Init.ensures in
+    record { block = (subst IsPlan c.in-Ok-Init.field-0-is plan).block_size }
 
 pub returns-clause-check : goal.returns-clause-check
 returns-clause-check g c = λ path is. nothing_printed g.D.Device g.K.Sink detail.Lines c.args.device c.args.sink.now

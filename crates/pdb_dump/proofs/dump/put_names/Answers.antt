@@ -2,8 +2,7 @@ use Rattle.std.proofs.Common.{◌≡◌, ◌+◌, ◌++◌, ◌<◌, ℕ, [], ge
 use Rattle.std.proofs.lemmas.Option.{get_or_from_slice_get, slice_get_within}
 use Rattle.names_table.specs.Names.{bytes_of}
 use Rattle.pdb_dump.specs.Dump.{name_line}
-use Rattle.pdb_dump.proofs.Lines.{bytes_most, bytes_next}
-use Rattle.tpi_stream.proofs.Offsets.{put_next}
+use Rattle.pdb_dump.proofs.Lines.{put_next, bytes_most, bytes_next}
 use Rattle.pdb_dump.proofs.dump.put_names.Goals as goal
 
 pub overflow_cast-offset : goal.overflow_cast-offset

@@ -2,7 +2,7 @@ use Rattle.std.proofs.Common.{◌≡◌, ◌+◌, ◌++◌, ℕ, [], get_or, len
 use Rattle.std.proofs.lemmas.Option.{get_or_from_slice_get}
 use Rattle.record_table.specs.Table.{index_at}
 use Rattle.pdb_dump.specs.Dump.{record_line}
-use Rattle.tpi_stream.proofs.Offsets.{put_next}
+use Rattle.pdb_dump.proofs.Lines.{put_next}
 use Rattle.pdb_dump.proofs.dump.put_records.Goals as goal
 
 pub loop-position-preserved : goal.loop-position-preserved

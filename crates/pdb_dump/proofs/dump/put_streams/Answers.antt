@@ -1,7 +1,6 @@
 use Rattle.std.proofs.Common.{◌≡◌, ◌+◌, ◌++◌, ◌<◌, ℕ, None, get_or, length, refl, sym, ap, ◌∙◌, arith}
 use Rattle.pdb_dump.specs.Dump.{stream_line}
-use Rattle.pdb_dump.proofs.Lines.{read_is}
-use Rattle.tpi_stream.proofs.Offsets.{put_next}
+use Rattle.pdb_dump.proofs.Lines.{put_next, read_is}
 use Rattle.pdb_dump.proofs.dump.put_streams.Goals as goal
 
 pub loop-i-preserved : goal.loop-i-preserved
