@@ -42,171 +42,167 @@ fn asked(alloc: Global, words: &[Word]) -> Result<String, Fail> {
     }
 }
 
-// The lines with the plan that each stands for, and those that are no form.
+// Lines, each with the plan that it stands for.
+const PLANS: &str = "\
+    session P => session P\n\
+    session - => session -\n\
+    session -- P => session P\n\
+    session -- -- => session --\n\
+    session session => session session\n\
+    check P => check P\n\
+    check -- P => check P\n\
+    check P -- => check P\n\
+    check - => check -\n\
+    check -- - => check -\n\
+    check -- -P => check -P\n\
+    check -- -- => check --\n\
+    check -- --help => check --help\n\
+    check -- --P=Q => check --P=Q\n\
+    check help => check help\n\
+    check check => check check\n\
+    check session => check session\n\
+    check P=Q => check P=Q\n\
+    check =P => check =P\n\
+    check = => check =\n\
+    check a-b => check a-b\n\
+    check /a/b.pdb => check /a/b.pdb\n\
+    check é => check é\n\
+    check \u{2212}x => check \u{2212}x\n\
+    dump P => dump P\n\
+    dump - => dump -\n\
+    dump -- -P => dump -P\n\
+    dump P=Q -- => dump P=Q\n\
+    dump check => dump check\n\
+    init P => init P 4096 00000000000000000000000000000000 0\n\
+    init --block 512 P => init P 512 00000000000000000000000000000000 0\n\
+    init P --block=0512 => init P 512 00000000000000000000000000000000 0\n\
+    init --block 0000032768 P => init P 32768 00000000000000000000000000000000 0\n\
+    init P --guid 00112233445566778899aAbBcCdDeEfF => init P 4096 00112233445566778899aabbccddeeff 0\n\
+    init P --signature 4294967295 => init P 4096 00000000000000000000000000000000 4294967295\n\
+    init --signature=7 --guid=000000000000000000000000000000ff --block=1024 -- -P => init -P 1024 000000000000000000000000000000ff 7";
+
+// Lines that are no form, each between bars.
+const NO_FORMS: &str = "\
+    ||\n\
+    |-|\n\
+    |--|\n\
+    |P|\n\
+    |help|\n\
+    |-h|\n\
+    |--help|\n\
+    |-V|\n\
+    |--version|\n\
+    |sess|\n\
+    |sessions|\n\
+    |Session|\n\
+    |--session|\n\
+    |-- session|\n\
+    |session=|\n\
+    | session|\n\
+    |session |\n\
+    |session -x|\n\
+    |session --x|\n\
+    |session ---|\n\
+    |session -h|\n\
+    |session --help|\n\
+    |session -V|\n\
+    |session --version|\n\
+    |session --block 512|\n\
+    |session P --block 512|\n\
+    |session P Q|\n\
+    |session|\n\
+    |session --|\n\
+    |session help x|\n\
+    |init|\n\
+    |init P Q|\n\
+    |init --block 512|\n\
+    |init P --block 511|\n\
+    |init P --block 65536|\n\
+    |init P --block 4000|\n\
+    |init P --block +512|\n\
+    |init P --block -512|\n\
+    |init P --block=-512|\n\
+    |init P --block 512k|\n\
+    |init P --block 00000000512|\n\
+    |init P --block= |\n\
+    |init P --block|\n\
+    |init P --block -- 512|\n\
+    |init P --block 512 --block 512|\n\
+    |init P --guid 0|\n\
+    |init P --guid 0011223344556677889900112233445g|\n\
+    |init P --guid 001122334455667788990011223344556677|\n\
+    |init P --signature 4294967296|\n\
+    |init P --signature 10000000000|\n\
+    |init P --signature 0x10|\n\
+    |init P --seed 1|\n\
+    |Init P|\n\
+    |check|\n\
+    |check |\n\
+    |check --|\n\
+    |check -- |\n\
+    |check P |\n\
+    |check  P|\n\
+    |check P Q|\n\
+    |check P P|\n\
+    |check -- P Q|\n\
+    |check P -- Q|\n\
+    |check -- P --|\n\
+    |check -- -- P|\n\
+    |check -P|\n\
+    |check --P|\n\
+    |check ---|\n\
+    |check -=P|\n\
+    |check --=P|\n\
+    |check P -Q|\n\
+    |check P --Q|\n\
+    |check -h|\n\
+    |check --help|\n\
+    |check -V P|\n\
+    |check --version P|\n\
+    |check --path P|\n\
+    |check --PATH P|\n\
+    |check --PATH=P|\n\
+    |check --block 512 P|\n\
+    |check -é|\n\
+    |check --é|\n\
+    |Check P|\n\
+    |CHECK P|\n\
+    |chec P|\n\
+    |checks P|\n\
+    |check=P|\n\
+    |--check P|\n\
+    |-- check P|\n\
+    |dump|\n\
+    |dump |\n\
+    |dump P Q|\n\
+    |dump -P|\n\
+    |dump --help|\n\
+    |dump --block 512 P|\n\
+    |Dump P|\n\
+    |dumps P|\n\
+    |gen 1|\n\
+    |serve P --listen S --sessions 1|";
+
 #[test]
-fn command_lines(rt: HostRuntime) -> Result<(), Fail> {
+fn lines_with_plans(rt: HostRuntime) -> Result<(), Fail> {
     let alloc = rt.alloc();
-    assert_eq!(rt; asked(alloc, &[])?.as_str(), "");
-    for (line, want) in [
-        ("session P", "session P"),
-        ("session -", "session -"),
-        ("session -- P", "session P"),
-        ("session -- --", "session --"),
-        ("session session", "session session"),
-        ("check P", "check P"),
-        ("check -- P", "check P"),
-        ("check P --", "check P"),
-        ("check -", "check -"),
-        ("check -- -", "check -"),
-        ("check -- -P", "check -P"),
-        ("check -- --", "check --"),
-        ("check -- --help", "check --help"),
-        ("check -- --P=Q", "check --P=Q"),
-        ("check help", "check help"),
-        ("check check", "check check"),
-        ("check session", "check session"),
-        ("check P=Q", "check P=Q"),
-        ("check =P", "check =P"),
-        ("check =", "check ="),
-        ("check a-b", "check a-b"),
-        ("check /a/b.pdb", "check /a/b.pdb"),
-        ("check é", "check é"),
-        ("check \u{2212}x", "check \u{2212}x"),
-        ("dump P", "dump P"),
-        ("dump -", "dump -"),
-        ("dump -- -P", "dump -P"),
-        ("dump P=Q --", "dump P=Q"),
-        ("dump check", "dump check"),
-        ("init P", "init P 4096 00000000000000000000000000000000 0"),
-        (
-            "init --block 512 P",
-            "init P 512 00000000000000000000000000000000 0",
-        ),
-        (
-            "init P --block=0512",
-            "init P 512 00000000000000000000000000000000 0",
-        ),
-        (
-            "init --block 0000032768 P",
-            "init P 32768 00000000000000000000000000000000 0",
-        ),
-        (
-            "init P --guid 00112233445566778899aAbBcCdDeEfF",
-            "init P 4096 00112233445566778899aabbccddeeff 0",
-        ),
-        (
-            "init P --signature 4294967295",
-            "init P 4096 00000000000000000000000000000000 4294967295",
-        ),
-        (
-            "init --signature=7 --guid=000000000000000000000000000000ff --block=1024 -- -P",
-            "init -P 1024 000000000000000000000000000000ff 7",
-        ),
-    ] {
+    for case in PLANS.split('\n') {
+        let (line, want) = case.split_once(" => ").ok_or("a line and its plan")?;
         let words = words_of(alloc, line)?;
         assert_eq!(rt; asked(alloc, &words)?.as_str(), want, "{line}");
     }
-    for line in [
-        "",
-        "-",
-        "--",
-        "P",
-        "help",
-        "-h",
-        "--help",
-        "-V",
-        "--version",
-        "sess",
-        "sessions",
-        "Session",
-        "--session",
-        "-- session",
-        "session=",
-        " session",
-        "session ",
-        "session -x",
-        "session --x",
-        "session ---",
-        "session -h",
-        "session --help",
-        "session -V",
-        "session --version",
-        "session --block 512",
-        "session P --block 512",
-        "session P Q",
-        "session",
-        "session --",
-        "session help x",
-        "init",
-        "init P Q",
-        "init --block 512",
-        "init P --block 511",
-        "init P --block 65536",
-        "init P --block 4000",
-        "init P --block +512",
-        "init P --block -512",
-        "init P --block=-512",
-        "init P --block 512k",
-        "init P --block 00000000512",
-        "init P --block= ",
-        "init P --block",
-        "init P --block -- 512",
-        "init P --block 512 --block 512",
-        "init P --guid 0",
-        "init P --guid 0011223344556677889900112233445g",
-        "init P --guid 001122334455667788990011223344556677",
-        "init P --signature 4294967296",
-        "init P --signature 10000000000",
-        "init P --signature 0x10",
-        "init P --seed 1",
-        "Init P",
-        "check",
-        "check ",
-        "check --",
-        "check -- ",
-        "check P ",
-        "check  P",
-        "check P Q",
-        "check P P",
-        "check -- P Q",
-        "check P -- Q",
-        "check -- P --",
-        "check -- -- P",
-        "check -P",
-        "check --P",
-        "check ---",
-        "check -=P",
-        "check --=P",
-        "check P -Q",
-        "check P --Q",
-        "check -h",
-        "check --help",
-        "check -V P",
-        "check --version P",
-        "check --path P",
-        "check --PATH P",
-        "check --PATH=P",
-        "check --block 512 P",
-        "check -é",
-        "check --é",
-        "Check P",
-        "CHECK P",
-        "chec P",
-        "checks P",
-        "check=P",
-        "--check P",
-        "-- check P",
-        "dump",
-        "dump ",
-        "dump P Q",
-        "dump -P",
-        "dump --help",
-        "dump --block 512 P",
-        "Dump P",
-        "dumps P",
-        "gen 1",
-        "serve P --listen S --sessions 1",
-    ] {
+    Ok(())
+}
+
+#[test]
+fn lines_of_no_form(rt: HostRuntime) -> Result<(), Fail> {
+    let alloc = rt.alloc();
+    assert_eq!(rt; asked(alloc, &[])?.as_str(), "");
+    for case in NO_FORMS.split('\n') {
+        let line = case
+            .strip_prefix('|')
+            .and_then(|line| line.strip_suffix('|'));
+        let line = line.ok_or("a line between bars")?;
         let words = words_of(alloc, line)?;
         assert_eq!(rt; asked(alloc, &words)?.as_str(), "", "{line}");
     }
