@@ -5,8 +5,6 @@ mod answer;
 mod laws;
 mod replies;
 mod solo;
-#[cfg(test)]
-mod tests;
 
 pub use crate::laws::{each_answer, waits_for_nobody};
 pub use crate::solo::Solo;
