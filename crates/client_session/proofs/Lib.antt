@@ -5,3 +5,7 @@ mod Leaving
 pub mod Course
 mod Refused
 mod Answering
+mod Passing
+mod Ending
+pub mod Sharing
+mod Listing

@@ -31,7 +31,7 @@ use Rattle.client_session.specs.Course.{Answers, AnswersCommit, Course, IsForOth
 use Rattle.client_session.specs.Tables.{AnswersCalls, Calls, none, one, each, of_file, Tables, answer_message, calls_of, greeting, reply_kind}
 
 -- what tables alone refuse
-abbrev IsOwn : Refusal → Type 0
+abbrev pub IsOwn : Refusal → Type 0
 IsOwn (Malformed at what) = ⊤
 IsOwn (NotGiven space index) = ⊤
 IsOwn (Full which needed) = which ≤ 3
@@ -39,7 +39,7 @@ IsOwn (Underway number) = ⊥
 IsOwn (DiskFault number) = ⊥
 IsOwn OutOfMemory = ⊤
 
-abbrev Owns : {A : Type 0} → Result A Refusal → Type 0
+abbrev pub Owns : {A : Type 0} → Result A Refusal → Type 0
 Owns (Ok x) = ⊤
 Owns (Err refusal) = IsOwn refusal
 
@@ -79,7 +79,7 @@ owns_record space t types items r =
     owns_index (answer_to_record space t types items r)
     (owns_bytes (leaf_of space r) leaf (owns_leaf (missing space r types items) added (owns_add (records.answer_to_add t r) t.max_records)))
 
-owns_answer : (x : Tables) (c : Call) → Owns (answer x c)
+pub owns_answer : (x : Tables) (c : Call) → Owns (answer x c)
 owns_answer x (AddType r) = owns_record Types x.types (type_count x) (item_count x) r
 owns_answer x (AddItem r) = owns_record Items x.items (type_count x) (item_count x) r
 owns_answer x (AddName name) = owns_index (answer_of_name (strings.answer_to_add x.names name)) (owns_name (strings.answer_to_add x.names name))

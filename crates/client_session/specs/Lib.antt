@@ -3,3 +3,4 @@ pub mod Course
 pub mod Commits
 pub mod Standing
 pub mod Served
+pub mod Sharing

@@ -93,7 +93,7 @@ fn add_list(tables: &mut Tables, head: Head, space: Space, list: &[u8], out: &mu
 }
 
 // The kind of a request to add a list of records of a space.
-fn list_kind(space: Space) -> u8
+pub(crate) fn list_kind(space: Space) -> u8
     ensures { result ≡ kind_of_list space }
 {
     match space {

@@ -2,9 +2,14 @@
 #![tactic(auto)]
 
 mod answer;
+mod by_hub;
 mod laws;
 mod replies;
+mod shared;
 mod solo;
+#[cfg(test)]
+mod tests;
 
-pub use crate::laws::{each_answer, waits_for_nobody};
+pub use crate::laws::{each_answer, own_calls_grow, refused_calls, waits_for_nobody};
+pub use crate::shared::Shared;
 pub use crate::solo::Solo;

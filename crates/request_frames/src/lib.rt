@@ -25,5 +25,7 @@ pub use crate::read::{head_of, read_request};
 pub use crate::reply::{Part, Reply};
 pub use crate::request::{BadFrame, Request};
 pub use crate::serve::serve_link;
-pub use crate::write::{part_of, push_body, push_part, write_bad, write_frame, write_refusal};
+pub use crate::write::{
+    part_of, push_body, push_part, take_in, write_bad, write_frame, write_refusal,
+};
 pub use srv_edge::Head;

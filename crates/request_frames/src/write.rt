@@ -1,4 +1,4 @@
-ghost use Rattle.std.specs.Prelude.{◌≡◌, ◌≤◌, ◌+◌, ◌∷◌, ◌++◌, [], length};
+ghost use Rattle.std.specs.Prelude.{◌≡◌, ◌≤◌, ◌+◌, ◌∷◌, ◌++◌, ℕ, List, [], length};
 ghost use Rattle.srv_edge.specs.declared.code.TheConstants as codes;
 ghost use Rattle.srv_edge.specs.declared.piece.TheConstants.{PIECE_BYTES};
 ghost use Rattle.srv_edge.specs.Frames.{Frame, frame_bytes, refused, tag_bytes, tag_size, word_bytes};
@@ -89,7 +89,20 @@ pub fn push_body(more: &[u8], out: &mut Piece)
     ensures size { length out.new ≡ length out.old + length more.now }
 {
     out.push(more);
-    let size = out.len() as u32 - 4;
+    take_in(out);
+}
+
+/// Takes what was put behind the frame that stands in a piece into its body.
+pub fn take_in(out: &mut Piece)
+    requires some { 4 ≤ length out.old }
+    ensures frame { (f : Frame) (more : List ℕ) → out.old ≡ frame_bytes f ++ more
+        → out.new ≡ frame_bytes (record {
+          head = f.head;
+          message = record { kind = f.message.kind; body = f.message.body ++ more };
+        }) }
+    ensures size { length out.new ≡ length out.old }
+{
+    let size = out.bytes().len() as u32 - 4;
     out.set(0, &word(size));
 }
 
