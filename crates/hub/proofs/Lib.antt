@@ -2,8 +2,10 @@ pub mod Adding
 pub mod Answering
 pub mod Beginning
 pub mod Closing
+pub mod Crossing
 pub mod Ending
 pub mod Filing
+pub mod Finishing
 pub mod Opening
 pub mod Owning
 pub mod Passing

@@ -45,12 +45,12 @@ rest_back [] rest = refl
 rest_back (x ∷ sizes) rest = rest_back sizes rest
 
 module _ {D : Type 0} (g : Ghosts D) (limits : Limits) (f : FileView D) (x : Tables) where
-  shape_back : f.shape ≡ shape_in (basis_of g limits f x)
+  pub shape_back : f.shape ≡ shape_in (basis_of g limits f x)
   shape_back =
       ap (λ (z : _). record { block = f.shape.block; blocks = f.shape.blocks; sizes = z; type_hashes = f.shape.type_hashes; item_hashes = f.shape.item_hashes; names_stream = f.shape.names_stream })
       (sym (sizes_back f.shape.sizes (g.loans f.device)))
 
-  loans_back : g.loans f.device ≡ loans_in (basis_of g limits f x)
+  pub loans_back : g.loans f.device ≡ loans_in (basis_of g limits f x)
   loans_back = sym (rest_back f.shape.sizes (g.loans f.device))
 
 -- ---- a hub over a book

@@ -1,5 +1,5 @@
 -- The calls of one pass in a history: what holds of them, and the commit that is under way.
-use Rattle.std.proofs.Common.{◌≡◌, ◌⊎◌, ◌<◌, ◌==◌, ℕ, Bool, true, false, cond, List, [], ◌∷◌, ◌++◌, Option, Some, None, refl, sym, ap, ◌∙◌, subst, arith, inl, inr, ⊎_elim}
+use Rattle.std.proofs.Common.{◌≡◌, ◌⊎◌, ◌<◌, ◌^◌, ◌==◌, ℕ, Bool, true, false, cond, List, [], ◌∷◌, ◌++◌, Option, Some, None, refl, sym, ap, ◌∙◌, subst, arith, inl, inr, ⊎_elim}
 use Rattle.std.specs.Prelude.{All}
 use Rattle.std.proofs.lemmas.Bool.{eq-eqb}
 use Rattle.std.proofs.lemmas.Option.{same_Some}
@@ -10,6 +10,7 @@ use Rattle.turnstile.specs.Histories.{Begins, caller, calls_by}
 use Rattle.call_journal.specs.declared.deed.Deed.{Deed}
 use Rattle.call_journal.specs.declared.deed.Deed.TheVariants.{Added, Asked, Counted, NotGiven, Full, Began, Ended, Underway}
 use Rattle.call_journal.specs.Words.{deed_of}
+use Rattle.call_journal.proofs.Decoding.{is_deed}
 use Rattle.core_model.specs.Entries.{entry_of}
 use Rattle.core_model.specs.declared.commit.OpenCommit.{OpenCommit}
 use Rattle.core_model.specs.History.{DeedFits, IsLegal, IsStart, Standing, after_deed, after_entries, after_entry, opening, standing}
@@ -152,6 +153,11 @@ all_at P (x ∷ before) rest e a = all_at P before rest e (All-tail P x (before 
 calls_unended : (n : ℕ) (rest : List Entry) → AreCalls rest → All (IsNoEnd n) rest
 calls_unended n [] calls = All-nil (IsNoEnd n)
 calls_unended n (e ∷ rest) calls = All-cons (IsNoEnd n) e rest (λ ok. (All-head IsNoCommit e rest calls).ends_none n ok) (calls_unended n rest (All-tail IsNoCommit e rest calls))
+
+-- the number of a commit that is under way fits its words
+pub open_small : (b : Basis) (h : List Entry) (k : OpenCommit) → IsLegal b h → (standing b h).under_way ≡ Some k → k.number < 2 ^ 32
+open_small b h k l shown =
+    ⊎_elim (λ (p : (None ≡ Some k) × AreCalls h). let q : None ≡ Some k = p.0 in cc) (λ (p : IsOpenIn h k). is_deed p.began.word (Began k.number) p.deed) (is_shown (opening b) h k (fits_on b [] h l) shown)
 
 -- where each commit of the caller of the one under way has ended, none is under way
 pub none_open : (b : Basis) (h : List Entry) (k : OpenCommit) → IsStart b → IsLegal b h → (standing b h).under_way ≡ Some k → AreEnded (calls_by k.caller h) → ⊥

@@ -1,7 +1,8 @@
 -- How a hub is made, and what it leaves.
-use Rattle.std.specs.Prelude.{◌≡◌, ◌≢◌, ℕ, List, [], All, Some, None}
+use Rattle.std.specs.Prelude.{◌≡◌, ◌≢◌, ◌+◌, ℕ, List, [], All, length, Some, None}
 use mathlib.Core.Option.{some}
 use lib.ListN.{get_elem?}
+use Rattle.atomic_table.specs.Seated.{TableId}
 use Rattle.srv_edge.specs.declared.device.Device.{Ghosts}
 use Rattle.srv_edge.specs.declared.failed.Limits.{Limits}
 use Rattle.call_journal.specs.declared.deed.Deed.TheVariants.{Began}
@@ -9,7 +10,7 @@ use Rattle.call_journal.specs.Words.{deed_of}
 use Rattle.turnstile.specs.declared.history.Entry.{Entry}
 use Rattle.turnstile.specs.declared.view.Ended.{Ended}
 use Rattle.turnstile.specs.Histories.{Begins, calls_by}
-use Rattle.turnstile.specs.Passes.{PassView}
+use Rattle.turnstile.specs.Passes.{IsIdleAt, PassView}
 use Rattle.turnstile.specs.Views.{times}
 use Rattle.table_model.specs.Bounds.{bounds_of}
 use Rattle.type_store.specs.Files.{FileView}
@@ -66,3 +67,13 @@ pub record IsClosed {D : Type 0} (g : Ghosts D) (first : PassView) (left : hub.E
   pub file : FileView D
   pub there : left.book.file ≡ Some file
   pub holds : IsFileOf g first.basis (IsAllowed first.basis history) (after first.basis history) (standing first.basis history).number (faulted_ends history) file
+
+-- A pass that is in no turn of this hub, each of whose commits has ended.
+abbrev pub IsFree : TableId → PassView → Type 0
+IsFree hub p = IsIdleAt hub p × AreEnded p.mine
+
+-- The first pass of a hub with so many others beside it. Each commit of those that it retired has ended.
+pub record IsFirst (others : ℕ) (p : PassView) : Type 0 where
+  pub number : p.number ≡ 0
+  pub made : length p.ended + others + 1 ≡ p.made
+  pub ended : (k : ℕ) (e : Ended) → get_elem? p.ended k ≡ some e → AreEnded e.calls

@@ -13,6 +13,8 @@ mod gets;
 mod hub;
 mod places;
 mod state;
+#[cfg(test)]
+mod tests;
 mod under_way;
 
 pub use crate::book::Book;
