@@ -1,6 +1,6 @@
 -- Numbers and bytes as words, and what words give as numbers and bytes.
 use Rattle.std.proofs.Common.{◌≡◌, ◌∙◌, ◌<◌, ◌≤◌, ◌^◌, ◌-◌, ◌==◌, ◌&&◌, ℕ, zero, suc, Bool, true, false, not, refl, sym, ap, subst, List, [], ◌∷◌, length, replicate, Option, Some, None, Result, Ok, Err, OkIff, lt-ltb, ltb-true, le-leb, leb-true, arith}
-use Rattle.std.specs.Prelude.{decimal, nat_le, nat_lt, slice_index}
+use Rattle.std.specs.Prelude.{decimal, nat_le, nat_lt, option_and_then, slice_index}
 use Rattle.std.specs.Char.{is_ascii_digit}
 use Rattle.std.specs.Str.{all_ascii_digits}
 use Rattle.std.specs.Str.Parse.{digits_value}
@@ -35,11 +35,14 @@ module _ (n : ℕ) (small : n < 2 ^ 32) where
   pub decimal_there : nat_lt 0 (length (decimal n)) ≡ true
   decimal_there = lt-ltb 0 (length (decimal n)) (decimal_nonempty n wide)
 
-  pub decimal_read : number_of (decimal n) ≡ Some n
-  decimal_read =
+  pub decimal_in : (least most : ℕ) → least ≤ n → n ≤ most → number_in least most (decimal n) ≡ Some n
+  decimal_in least most low high =
       let ten = length-decimal-le 10 n (omega arith) (omega arith) wide in
       let value = digits_value-decimal (numerals_by_value _ tells_all_ascii_digits) n wide in
-      rw (decimal_there, digits_are, value) grind (arith, ten)
+      rw (decimal_there, digits_are, value, le-leb (length (decimal n)) 10 ten, le-leb least n low, le-leb n most high) refl
+
+  pub decimal_read : number_of (decimal n) ≡ Some n
+  decimal_read = decimal_in 0 (2 ^ 32 - 1) (omega arith) (omega arith)
 
   pub size_read : IsBlockSize n → block_size_of (decimal n) ≡ Some n
   size_read is = rw (decimal_read, is) refl
@@ -114,6 +117,12 @@ pub value_only : {A : Type 0} (P : A → Type 0) (fallback : A) (read : Text →
     → (value : Option Text) (x : A) → value_or fallback read value ≡ Some x → P x
 value_only P fallback read first each None x e = let same : fallback ≡ x = cc in subst P same first
 value_only P fallback read first each (Some text) x e = each text x e
+
+-- so also of a value that has to stand
+pub given_only : {A : Type 0} (P : A → Type 0) (read : Text → Option A) → ((text : Text) (x : A) → read text ≡ Some x → P x)
+    → (value : Option Text) (x : A) → option_and_then read value ≡ Some x → P x
+given_only P read each None x e = cc
+given_only P read each (Some text) x e = each text x e
 
 pub small_only : (text : Text) (n : ℕ) → number_of text ≡ Some n → n < 2 ^ 32
 small_only text n e = let is = number_only 0 (2 ^ 32 - 1) text n e in omega (arith, is)

@@ -1,5 +1,5 @@
 -- What the values of options and positionals stand for.
-use Rattle.std.specs.Prelude.{ℕ, ◌-◌, ◌^◌, ◌&&◌, nat_le, nat_lt, Bool, List, length, Option, Some, None, Result, Ok, Err, if◌then◌else◌}
+use Rattle.std.specs.Prelude.{ℕ, ◌-◌, ◌^◌, ◌&&◌, nat_le, nat_lt, Bool, List, length, Option, Some, None, Result, Ok, Err, if◌then◌else◌, option_and_then}
 use Rattle.std.specs.Str.{all_ascii_digits}
 use Rattle.std.specs.Str.Parse.{digits_value}
 use Rattle.hex.specs.Hex.{decode_sized}
@@ -34,6 +34,18 @@ number_in least most text =
 abbrev pub number_of : Text → Option ℕ
 number_of text = number_in 0 (2 ^ 32 - 1) text
 
+-- how many units a generated session has
+abbrev pub units_of : Text → Option ℕ
+units_of text = number_in 1 10000 text
+
+-- how many sessions are served: one or more
+abbrev pub sessions_of : Text → Option ℕ
+sessions_of text = number_in 1 (2 ^ 32 - 1) text
+
+-- how many workers serve them
+abbrev pub workers_of : Text → Option ℕ
+workers_of text = number_in 1 64 text
+
 abbrev pub block_size_of : Text → Option ℕ
 block_size_of text = do
   size ← number_of text
@@ -51,3 +63,7 @@ value_or fallback read (Some text) = read text
 -- the same of an option of a line
 abbrev pub option_or : {A : Type 0} → A → (Text → Option A) → Text → Line → Option A
 option_or fallback read name line = value_or fallback read (value_in name line.options)
+
+-- what the value of an option stands for that has to be there
+abbrev pub option_given : {A : Type 0} → (Text → Option A) → Text → Line → Option A
+option_given read name line = option_and_then read (value_in name line.options)

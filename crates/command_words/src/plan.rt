@@ -1,12 +1,12 @@
 ghost use Rattle.std.specs.Prelude.{◌≡◌, ◌⊎◌, IfOk, MatchResult, None, Some, [], codes, map, option_and_then, option_map};
 ghost use Rattle.std.specs.List.{AllByRecursion};
 ghost use Rattle.std.specs.Str.{IsUtf8};
-ghost use Rattle.command_words.specs.Forms.{Answers, check_plan, dump_plan, form_by, form_of, init_options, init_plan, only_positional, session_plan};
+ghost use Rattle.command_words.specs.Forms.{Answers, check_plan, dump_plan, form_by, form_of, gen_options, gen_plan, init_options, init_plan, only_positional, serve_options, serve_plan, session_plan};
 ghost use Rattle.command_words.specs.Lines.{Line, line_of, value_in};
 ghost use Rattle.command_words.specs.declared.plan.Usage.TheVariants.{OutOfMemory};
 
 use crate::line::{POSITIONAL, read};
-use crate::values::{block_size, guid, signature};
+use crate::values::{block_size, guid, number, number_or};
 use crate::word::Word;
 use std::alloc::{AllocError, Global};
 
@@ -31,6 +31,18 @@ pub enum Plan {
         block: u32,
         guid: [u8; 16],
         signature: u32,
+    },
+    /// Serve a session that is drawn from a seed, of so many units, and print what came of it.
+    Gen {
+        units: u32,
+        seed: u32,
+    },
+    /// Serve so many sessions that come to a socket, by so many workers, over the tables of a file.
+    Serve {
+        path: Word,
+        listen: Word,
+        sessions: u32,
+        workers: u32,
     },
 }
 
@@ -82,6 +94,8 @@ fn plan_by<'a>(alloc: Global, command: &str, words: &'a [&'a str]) -> Result<Pla
         "check" => check(alloc, words),
         "dump" => dump(alloc, words),
         "init" => init(alloc, words),
+        "gen" => generate(alloc, words),
+        "serve" => serve(alloc, words),
         _ => Err(Usage::NotAForm),
     }
 }
@@ -131,7 +145,7 @@ fn init<'a>(alloc: Global, words: &'a [&'a str]) -> Result<Plan, Usage>
     let given = init_words(alloc, options.as_slice(), words)?;
     let block = block_size(given.block)?;
     let guid = guid(given.guid)?;
-    let signature = signature(given.signature)?;
+    let signature = number_or(given.signature, 0, u32::MAX, 0)?;
     let path = Word::new(String::from_str(alloc, given.path)?);
     Ok(Plan::Init {
         path,
@@ -168,6 +182,43 @@ fn init_words<'a>(
         block: matches.get_str("block"),
         guid: matches.get_str("guid"),
         signature: matches.get_str("signature"),
+    })
+}
+
+fn generate<'a>(alloc: Global, words: &'a [&'a str]) -> Result<Plan, Usage>
+    requires { AllByRecursion IsUtf8 (map (λ w. w.now) words.now) }
+    ensures { Answers (option_and_then gen_plan (line_of gen_options (map (λ w. w.now) words.now)))
+        result }
+{
+    let matches = read(alloc, &["seed"], words)?;
+    let Some([units]) = matches.get_strs(POSITIONAL) else {
+        return Err(Usage::NotAForm);
+    };
+    let units = number(units, 1, 10_000)?;
+    let seed = number_or(matches.get_str("seed"), 0, u32::MAX, 1)?;
+    Ok(Plan::Gen { units, seed })
+}
+
+fn serve<'a>(alloc: Global, words: &'a [&'a str]) -> Result<Plan, Usage>
+    requires { AllByRecursion IsUtf8 (map (λ w. w.now) words.now) }
+    ensures { Answers (option_and_then serve_plan
+        (line_of serve_options (map (λ w. w.now) words.now))) result }
+{
+    let matches = read(alloc, &["listen", "sessions", "workers"], words)?;
+    let Some([path]) = matches.get_strs(POSITIONAL) else {
+        return Err(Usage::NotAForm);
+    };
+    let listen = matches.get_str("listen").ok_or(Usage::NotAForm)?;
+    let sessions = matches.get_str("sessions").ok_or(Usage::NotAForm)?;
+    let sessions = number(sessions, 1, u32::MAX)?;
+    let workers = number_or(matches.get_str("workers"), 1, 64, 4)?;
+    let path = Word::new(String::from_str(alloc, path)?);
+    let listen = Word::new(String::from_str(alloc, listen)?);
+    Ok(Plan::Serve {
+        path,
+        listen,
+        sessions,
+        workers,
     })
 }
 

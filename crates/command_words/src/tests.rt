@@ -37,6 +37,19 @@ fn asked(alloc: Global, words: &[Word]) -> Result<String, Fail> {
                 guid.as_str()
             )?)
         }
+        Ok(Plan::Gen { units, seed }) => Ok(format!(in alloc; "gen {units} {seed}")?),
+        Ok(
+            Plan::Serve {
+                path,
+                listen,
+                sessions,
+                workers,
+            },
+        ) => Ok(format!(in alloc;
+            "serve {} {} {sessions} {workers}",
+            path.as_str(),
+            listen.as_str()
+        )?),
         Err(Usage::NotAForm) => Ok(String::from_str(alloc, "")?),
         Err(Usage::OutOfMemory) => Ok(String::from_str(alloc, "out of memory")?),
     }
@@ -79,7 +92,16 @@ const PLANS: &str = "\
     init --block 0000032768 P => init P 32768 00000000000000000000000000000000 0\n\
     init P --guid 00112233445566778899aAbBcCdDeEfF => init P 4096 00112233445566778899aabbccddeeff 0\n\
     init P --signature 4294967295 => init P 4096 00000000000000000000000000000000 4294967295\n\
-    init --signature=7 --guid=000000000000000000000000000000ff --block=1024 -- -P => init -P 1024 000000000000000000000000000000ff 7";
+    init --signature=7 --guid=000000000000000000000000000000ff --block=1024 -- -P => init -P 1024 000000000000000000000000000000ff 7\n\
+    gen 1 => gen 1 1\n\
+    gen 10000 => gen 10000 1\n\
+    gen 0000000001 => gen 1 1\n\
+    gen -- 2000 => gen 2000 1\n\
+    gen 2 --seed 0 => gen 2 0\n\
+    gen --seed=4294967295 2 => gen 2 4294967295\n\
+    serve P --listen S --sessions 1 => serve P S 1 4\n\
+    serve --workers 64 --sessions 4294967295 --listen=-x P => serve P -x 4294967295 64\n\
+    serve --sessions=0002 --listen - --workers=1 -- -P => serve -P - 2 1";
 
 // Lines that are no form, each between bars.
 const NO_FORMS: &str = "\
@@ -180,8 +202,32 @@ const NO_FORMS: &str = "\
     |dump --block 512 P|\n\
     |Dump P|\n\
     |dumps P|\n\
-    |gen 1|\n\
-    |serve P --listen S --sessions 1|";
+    |gen|\n\
+    |gen 0|\n\
+    |gen 10001|\n\
+    |gen 00000000001|\n\
+    |gen +1|\n\
+    |gen -1|\n\
+    |gen 1 2|\n\
+    |gen P|\n\
+    |gen 1 --seed 4294967296|\n\
+    |gen 1 --seed|\n\
+    |gen 1 --seed 1 --seed 1|\n\
+    |gen 1 --block 512|\n\
+    |gen --seed 1|\n\
+    |serve P|\n\
+    |serve P --listen S|\n\
+    |serve P --sessions 1|\n\
+    |serve --listen S --sessions 1|\n\
+    |serve P Q --listen S --sessions 1|\n\
+    |serve P --listen= --sessions 1|\n\
+    |serve P --listen -x --sessions 1|\n\
+    |serve P --listen S --sessions 0|\n\
+    |serve P --listen S --sessions 4294967296|\n\
+    |serve P --listen S --sessions 1 --workers 0|\n\
+    |serve P --listen S --sessions 1 --workers 65|\n\
+    |serve P --listen S --listen S --sessions 1|\n\
+    |serve P --listen S --sessions 1 --seed 1|";
 
 #[test]
 fn lines_with_plans(rt: HostRuntime) -> Result<(), Fail> {

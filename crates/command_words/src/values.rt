@@ -2,7 +2,7 @@
 
 ghost use Rattle.std.specs.Prelude.{◌≡◌, option_map, replicate};
 ghost use Rattle.command_words.specs.Forms.{Answers};
-ghost use Rattle.command_words.specs.Values.{block_size_of, guid_of, number_in, number_of, value_or};
+ghost use Rattle.command_words.specs.Values.{block_size_of, guid_of, number_in, value_or};
 
 use crate::plan::Usage;
 use msf_blocks::is_block_size;
@@ -50,12 +50,18 @@ pub(crate) fn guid(text: Option<&str>) -> Result<[u8; 16], Usage>
     }
 }
 
-/// The number that dates a PDB stream: 0 where none is given.
-pub(crate) fn signature(text: Option<&str>) -> Result<u32, Usage>
-    ensures { Answers (value_or 0 number_of (option_map (λ t. t.now) text.entry)) result }
+/// The number of an option, or the one that is taken where none is given.
+pub(crate) fn number_or(
+    text: Option<&str>,
+    least: u32,
+    most: u32,
+    fallback: u32,
+) -> Result<u32, Usage>
+    ensures { Answers (value_or fallback (number_in least most)
+        (option_map (λ t. t.now) text.entry)) result }
 {
     match text {
-        None => Ok(0),
-        Some(text) => number(text, 0, u32::MAX),
+        None => Ok(fallback),
+        Some(text) => number(text, least, most),
     }
 }

@@ -1,0 +1,5 @@
+mod Names
+mod Strings
+mod Loops
+pub mod Reading
+mod Counting

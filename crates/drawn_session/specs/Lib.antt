@@ -1,0 +1,4 @@
+pub mod Records
+pub mod Draws
+pub mod Requests
+pub mod Line
