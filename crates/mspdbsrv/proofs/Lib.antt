@@ -1,2 +1,7 @@
 mod Printing
 pub mod Serving
+pub mod Passes
+pub mod Leaving
+pub mod Causes
+pub mod Sending
+mod Drawing

@@ -33,7 +33,7 @@ use Rattle.mspdbsrv.specs.Run.{status_of}
 use Rattle.mspdbsrv.specs.Session.{ServesFile, ServesOver, book_of, status_by}
 
 -- tables within the bounds of a file have them
-within_bounds : (bounds : Bounds) (tables : Tables) → AreWithin bounds tables → HasBounds bounds tables
+pub within_bounds : (bounds : Bounds) (tables : Tables) → AreWithin bounds tables → HasBounds bounds tables
 within_bounds bounds tables within = record {
   type_records = ap (λ t. t.max_records) within.type_limits;
   type_bytes = ap (λ t. t.max_bytes) within.type_limits;

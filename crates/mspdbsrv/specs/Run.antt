@@ -31,6 +31,7 @@ IsEarly status.DiskFault = ⊥
 IsEarly (status.Damage kind place) = ⊥
 IsEarly status.CutShort = ⊥
 IsEarly status.BadLength = ⊥
+IsEarly status.DoorFault = ⊥
 IsEarly status.NotEmpty = ⊥
 
 -- nothing was read of a source that tells it
@@ -53,6 +54,7 @@ exit_code status.TooLong = 7
 exit_code status.OutOfMemory = 8
 exit_code status.CutShort = 9
 exit_code status.BadLength = 10
+exit_code status.DoorFault = 11
 exit_code status.NotEmpty = 12
 
 -- the word for a status; a damage has its kind and its place behind it
@@ -67,7 +69,28 @@ status_word status.TooLong = codes "too long"
 status_word status.OutOfMemory = codes "out of memory"
 status_word status.CutShort = codes "cut short"
 status_word status.BadLength = codes "bad length"
+status_word status.DoorFault = codes "door fault"
 status_word status.NotEmpty = codes "not empty"
+
+-- a plan that `run` does
+abbrev pub IsOfRun : Option Plan → Type 0
+IsOfRun (Some (plan.Session path)) = ⊤
+IsOfRun (Some (plan.Init path block guid signature)) = ⊤
+IsOfRun (Some (plan.Check path)) = ⊤
+IsOfRun (Some (plan.Dump path)) = ⊤
+IsOfRun (Some (plan.Gen units seed)) = ⊤
+IsOfRun (Some (plan.Serve path listen sessions workers)) = ⊥
+IsOfRun None = ⊥
+
+-- a plan by which `run` asks the device that it is given
+abbrev pub AsksDevice : Option Plan → Type 0
+AsksDevice (Some (plan.Session path)) = ⊤
+AsksDevice (Some (plan.Init path block guid signature)) = ⊤
+AsksDevice (Some (plan.Check path)) = ⊤
+AsksDevice (Some (plan.Dump path)) = ⊤
+AsksDevice (Some (plan.Gen units seed)) = ⊥
+AsksDevice (Some (plan.Serve path listen sessions workers)) = ⊥
+AsksDevice None = ⊥
 
 -- the plan of a session
 abbrev pub IsSession : Option Plan → Type 0
@@ -75,12 +98,16 @@ IsSession (Some (plan.Session path)) = ⊤
 IsSession (Some (plan.Init path block guid signature)) = ⊥
 IsSession (Some (plan.Check path)) = ⊥
 IsSession (Some (plan.Dump path)) = ⊥
+IsSession (Some (plan.Gen units seed)) = ⊥
+IsSession (Some (plan.Serve path listen sessions workers)) = ⊥
 IsSession None = ⊥
 
--- a plan that writes to its file
+-- a plan by which `run` writes to its file
 abbrev pub Writes : Option Plan → Type 0
 Writes (Some (plan.Session path)) = ⊤
 Writes (Some (plan.Init path block guid signature)) = ⊤
 Writes (Some (plan.Check path)) = ⊥
 Writes (Some (plan.Dump path)) = ⊥
+Writes (Some (plan.Gen units seed)) = ⊥
+Writes (Some (plan.Serve path listen sessions workers)) = ⊥
 Writes None = ⊥

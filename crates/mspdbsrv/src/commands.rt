@@ -2,9 +2,12 @@
 
 #[cfg(test)]
 mod commit_tests;
+pub mod draw;
+#[cfg(test)]
+mod draw_tests;
 pub mod init;
 #[cfg(test)]
-mod running;
+pub mod running;
 pub mod session;
 #[cfg(test)]
 mod session_tests;

@@ -3,17 +3,23 @@
 
 mod commands;
 mod run;
+mod server;
 mod status;
 
 use crate::run::run;
+use crate::server::run_server;
 use crate::status::Status;
 pub use command_words::{Plan, Usage, Word, plan_of};
-use srv_edge::{FileDevice, StdIn, StdOut};
+use srv_edge::{FileDevice, StdIn, StdOut, UnixDoor};
 use std::alloc::Global;
-use std::fs::{File, OpenOptions, TryLockError};
+use std::fs::{File, Files, OpenOptions, TryLockError};
 use std::hash::RandomState;
+use std::io::{Stdin, Stdout};
+use std::net::Net;
 use std::process::ExitCode;
 use std::rt::Env;
+use std::sync::Wait;
+use std::thread::Threads;
 use std::{env, fs, io};
 
 // The words of the command line behind the program's name, or why there are none.
@@ -47,6 +53,8 @@ fn device_of(rt: &HostRuntime, plan: &Plan) -> Result<FileDevice<File>, Status> 
         Plan::Check { path } | Plan::Dump { path } => (path, Access::Read),
         Plan::Session { path } => (path, Access::Write),
         Plan::Init { path, .. } => (path, Access::Make),
+        Plan::Serve { path, .. } => (path, Access::Write),
+        Plan::Gen { .. } => return Ok(FileDevice::absent()),
     };
     match open(rt, path.as_str(), access) {
         Ok(Some(file)) => Ok(FileDevice::new(file)),
@@ -100,23 +108,62 @@ fn keys_of(rt: &HostRuntime) -> Result<RandomState, Status> {
     }
 }
 
-// Does what the words ask for. They are judged before anything is asked of the system.
-fn run_words(rt: &HostRuntime, words: &[Word]) -> Result<Status, Status> {
-    let plan = match plan_of(rt.alloc(), words) {
+// What the program is to do, and what it does that with.
+struct Task {
+    words: Vec<Word>,
+    plan: Plan,
+    keys: RandomState,
+    device: FileDevice<File>,
+}
+
+// The task that the words ask for. They are judged before anything else is asked of the system.
+fn task_of(rt: &HostRuntime) -> Result<Task, Status> {
+    let words = words_of(rt)?;
+    let plan = match plan_of(rt.alloc(), &words) {
         Ok(plan) => plan,
         Err(Usage::NotAForm) => return Err(Status::Usage),
         Err(Usage::OutOfMemory) => return Err(Status::OutOfMemory),
     };
     let keys = keys_of(rt)?;
     let device = device_of(rt, &plan)?;
-    let mut source = StdIn::new(rt.stdin());
-    let mut sink = StdOut::new(rt.stdout());
-    Ok(run(rt.alloc(), keys, words, &mut source, &mut sink, device).0)
+    Ok(Task {
+        words,
+        plan,
+        keys,
+        device,
+    })
+}
+
+// Does a task over standard input and output, or over a socket.
+fn do_task<R: Threads + Wait + Net + Files<File = File> + Alloc<A = Global> + Send + Sync>(
+    rt: &R,
+    input: Stdin,
+    output: Stdout,
+    task: Task,
+) -> Status {
+    let Task {
+        words,
+        plan,
+        keys,
+        device,
+    } = task;
+    let mut sink = StdOut::new(output);
+    let Plan::Serve { listen, .. } = &plan else {
+        let mut source = StdIn::new(input);
+        return run(rt.alloc(), keys, &words, &mut source, &mut sink, device).0;
+    };
+    let Ok(door) = UnixDoor::listen(rt, rt.alloc(), listen.as_str()) else {
+        return Status::OutOfMemory;
+    };
+    let (status, _closed, door) = run_server(rt, rt.alloc(), keys, &words, door, &mut sink, device);
+    door.close(rt);
+    status
 }
 
 fn main(rt: HostRuntime) -> ExitCode {
-    let status = match words_of(&rt).and_then(|words| run_words(&rt, &words)) {
-        Ok(status) | Err(status) => status,
+    let status = match task_of(&rt) {
+        Ok(task) => do_task(&rt, rt.stdin(), rt.stdout(), task),
+        Err(status) => status,
     };
     if status != Status::Ok {
         let _ = eprintln!(rt; "mspdbsrv: {status}");

@@ -1,12 +1,14 @@
-ghost use Rattle.std.specs.Prelude.{◌≡◌, ◌⊎◌, ℕ, List, None, Some};
+ghost use Rattle.std.specs.Prelude.{◌≡◌, ◌⊎◌, ℕ, List, Some};
 ghost use Rattle.command_words.specs.Forms.{form_of};
 ghost use Rattle.srv_edge.specs.Count.{HasCause};
 ghost use Rattle.srv_edge.specs.Reading.{OnlyReads};
+ghost use Rattle.mspdbsrv.specs.Drawn.{CompletesGen, RunsGen};
 ghost use Rattle.mspdbsrv.specs.Printed.{CompletesPrinting, PrintsFile};
 ghost use Rattle.mspdbsrv.specs.Making.{CompletesInit, RunsInit};
-ghost use Rattle.mspdbsrv.specs.Run.{IsEarly, IsSession, IsUnread, IsUnsent, Writes};
+ghost use Rattle.mspdbsrv.specs.Run.{AsksDevice, IsEarly, IsOfRun, IsSession, IsUnread, IsUnsent, Writes};
 ghost use Rattle.mspdbsrv.specs.Session.{CompletesSession, RunsSession};
 
+use crate::commands::draw::draw;
 use crate::commands::init::{NewFile, init};
 use crate::commands::session::session;
 use crate::commands::show::{Detail, show};
@@ -17,7 +19,8 @@ use std::alloc::Global;
 use std::hash::RandomState;
 
 /// Does what the words ask for, and hands the device back. `init` and `session` write to the device;
-/// `check` and `dump` read it alone. `session` makes its buffers and its tables before it reads its
+/// `check` and `dump` read it alone. `gen` runs over a
+/// file in memory. `session` makes its buffers and its tables before it reads its
 /// input. The keys are those by which names are found in memory.
 pub fn run<S: Source, K: Sink, D: Device>(
     alloc: Global,
@@ -27,9 +30,9 @@ pub fn run<S: Source, K: Sink, D: Device>(
     sink: &mut K,
     device: D,
 ) -> (Status, D)
-    // The words are no form: that yields to want of memory alone.
-    ensures usage { result.0 ≡ Status.Usage → form_of words.now ≡ None }
-    ensures no_form { form_of words.now ≡ None
+    // The words are no form of these commands: that yields to want of memory alone.
+    ensures usage { result.0 ≡ Status.Usage → ¬ IsOfRun (form_of words.now) }
+    ensures no_form { (¬ IsOfRun (form_of words.now))
         → (result.0 ≡ Status.Usage) ⊎ (result.0 ≡ Status.OutOfMemory) }
 
     // In `session` these bytes came and these went, and they are a session over the file's tables.
@@ -48,10 +51,13 @@ pub fn run<S: Source, K: Sink, D: Device>(
     // In `dump` all of that commit went, or the line of the file's first damage.
     ensures dump { (path : List ℕ) → form_of words.now ≡ Some (Plan.Dump path)
         → PrintsFile D.Device K.Sink Detail.All device sink.old sink.new result.0 }
+    // In `gen` the line went of a session that was drawn from the seed, and that no call failed in.
+    ensures generated { (units seed : ℕ) → form_of words.now ≡ Some (Plan.Gen units seed)
+        → RunsGen K.Sink units seed sink.old sink.new result.0 }
     ensures nothing_read { IsEarly result.0 → IsUnread S.Source source.old source.new }
     ensures nothing_given { IsEarly result.0 → IsUnsent K.Sink sink.old sink.new }
     ensures source_untouched { (¬ IsSession (form_of words.now)) → source.new ≡ source.old }
-    ensures device_untouched { form_of words.now ≡ None → result.1 ≡ device }
+    ensures device_untouched { (¬ AsksDevice (form_of words.now)) → result.1 ≡ device }
     ensures reads { HasCause (result.0 ≡ Status.ReadFault)
         (S.faults source.old) (S.faults source.new) }
     ensures writes { HasCause (result.0 ≡ Status.WriteFault)
@@ -74,6 +80,8 @@ pub fn run<S: Source, K: Sink, D: Device>(
         → CompletesPrinting D.Device K.Sink device result.1 sink.old sink.new result.0 }
     ensures dump_completes { (path : List ℕ) → form_of words.now ≡ Some (Plan.Dump path)
         → CompletesPrinting D.Device K.Sink device result.1 sink.old sink.new result.0 }
+    ensures gen_completes { (units seed : ℕ) → form_of words.now ≡ Some (Plan.Gen units seed)
+        → CompletesGen K.Sink sink.old sink.new result.0 }
 {
     match plan_of(alloc, words) {
         Ok(Plan::Session { .. }) => session(alloc, keys, source, sink, device),
@@ -96,6 +104,13 @@ pub fn run<S: Source, K: Sink, D: Device>(
         }
         Ok(Plan::Check { .. }) => show(alloc, keys, Detail::Lines, sink, device),
         Ok(Plan::Dump { .. }) => show(alloc, keys, Detail::All, sink, device),
+        Ok(Plan::Gen { units, seed }) => {
+            // The words gave a number of units that a session may have.
+            plans_have_words();
+            (draw(alloc, keys, units, seed, sink), device)
+        }
+        // A door is served by another call.
+        Ok(Plan::Serve { .. }) => (Status::Usage, device),
         Err(Usage::NotAForm) => (Status::Usage, device),
         Err(Usage::OutOfMemory) => (Status::OutOfMemory, device),
     }

@@ -27,6 +27,8 @@ pub enum Status {
     CutShort,
     /// A frame's length is 0 or over 65,537.
     BadLength,
+    /// The door failed.
+    DoorFault,
     /// The device of a new file has bytes already.
     NotEmpty,
 }
@@ -47,6 +49,7 @@ impl Status {
             Status::OutOfMemory => 8,
             Status::CutShort => 9,
             Status::BadLength => 10,
+            Status::DoorFault => 11,
             Status::NotEmpty => 12,
         }
     }
@@ -66,6 +69,7 @@ impl Status {
             Status::OutOfMemory => "out of memory",
             Status::CutShort => "cut short",
             Status::BadLength => "bad length",
+            Status::DoorFault => "door fault",
             Status::NotEmpty => "not empty",
         }
     }

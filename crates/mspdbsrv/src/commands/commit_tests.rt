@@ -1,14 +1,15 @@
 //! New files, and sessions that commit to them.
 
-use crate::commands::running::{device_with, new_file, run_line, settled, words_of};
+use crate::commands::running::{bytes_of, device_with, new_file, run_line, settled, words_of};
 use crate::commands::session_tests::packed;
 use crate::device_of;
 use crate::status::Status;
 use command_words::plan_of;
-use srv_edge::{CallKind, MemDevice};
+use srv_edge::{CallKind, Limits, MemDevice};
 use std::alloc::Global;
 use std::hash::RandomState;
 use std::test::Fail;
+use type_store::PdbFile;
 
 // An AddType of a modifier and two commits, with what is answered.
 const TWO_COMMITS: &str = "0d000000020a000110740000000100f2f1 0100000008 0100000008";
@@ -256,6 +257,92 @@ fn changed_files(rt: HostRuntime) -> Result<(), Fail> {
     let (replies, status, _) = session(alloc, keys, &file, "0100000008 0100000009", &[])?;
     let full = "0a000000ff0605000000000000000d00000089000000000000000000000000";
     assert_eq!(rt; (replies.as_str(), status), (full, Status::Ok));
+    Ok(())
+}
+
+// What a new file becomes with 100 bytes of 7 as stream 3; with 100 bytes in stream 0, whose block
+// is free; and with a type server as its one type and adjusters of hashes: at a place these bytes.
+const LINKED: &str = "40 0b
+    44 3c
+    4097 fc
+    16396 01
+    16400 1c
+    16432 0c
+    16436 08
+    16440 1a001515 00000000000000000000000000000000 01000000 61000000
+    28676 64
+    28684 54
+    28688 64
+    28708 0a000000 03000000 04000000 09000000 05000000 06000000";
+
+const LINKED_SHOWN: [&str; 5] = [
+    "pdb age=1 types=1 items=0 names=0\n",
+    "stream 0 size=100 blocks=1\n",
+    "stream 2 size=84 blocks=1\nstream 3 size=100 blocks=1\n",
+    "blocks=11 streams=8 free=1\n",
+    "type 00001000 1515 1a001515000000000000000000000000000000000100000061000000\n",
+];
+
+const LINKED_COMMITTED: [&str; 4] = [
+    "pdb age=2 types=1 items=0 names=0\n",
+    "stream 0 size=0 blocks=0\n",
+    "stream 2 size=84 blocks=1\nstream 3 size=100 blocks=1\n",
+    "type 00001000 1515 1a001515000000000000000000000000000000000100000061000000\n",
+];
+
+// Writes bytes at places.
+fn patch(alloc: Global, file: &mut Vec<u8>, patches: &str) -> Result<(), Fail> {
+    for line in patches.lines() {
+        let (place, text) = line.trim().split_once(' ').unwrap_or(("", ""));
+        let at = place.parse::<u32>().unwrap_or(0) as usize;
+        for (byte, there) in bytes_of(alloc, text)?.iter().zip(file.iter_mut().skip(at)) {
+            *there = *byte;
+        }
+    }
+    Ok(())
+}
+
+// The content of streams 2 and 3 of a file.
+fn carried(alloc: Global, keys: RandomState, file: &[u8]) -> Result<(Vec<u8>, Vec<u8>), Fail> {
+    let device = device_with(alloc, file, &[])?;
+    let Ok((mut file, _)) = PdbFile::open(alloc, keys, device, Limits::STANDARD) else {
+        return Err(Fail::new("the file opens"));
+    };
+    match (file.read_stream(alloc, 2), file.read_stream(alloc, 3)) {
+        (Ok(types), Ok(debug)) => Ok((types, debug)),
+        _ => Err(Fail::new("the streams are read")),
+    }
+}
+
+// A linked file opens, and a commit keeps its stream 3, frees stream 0 and drops the adjusters.
+#[test]
+fn commit_of_a_linked_file(rt: HostRuntime) -> Result<(), Fail> {
+    let alloc = rt.alloc();
+    let keys = RandomState::new(&rt)?;
+    let mut file = new_file(alloc, keys, "")?;
+    file.resize(45_056, 7)?;
+    patch(alloc, &mut file, LINKED)?;
+    let text = shown(alloc, keys, "dump P", &file)?;
+    for line in LINKED_SHOWN {
+        assert!(rt; text.as_str().contains(line), "{line}");
+    }
+    let (replies, status, device) = session(alloc, keys, &file, "0100000008", &[])?;
+    assert_eq!(rt;
+        (replies.as_str(), status),
+        ("050000008802000000", Status::Ok)
+    );
+    let after = settled(&device)?;
+    let text = shown(alloc, keys, "dump P", &after)?;
+    for line in LINKED_COMMITTED {
+        assert!(rt; text.as_str().contains(line), "{line}");
+    }
+    let (types, debug) = carried(alloc, keys, &after)?;
+    assert_eq!(rt; debug, vec![in alloc; 7; 100]?);
+    // one hash, one index offset, and no adjusters
+    let places = [
+        0, 0, 0, 0, 4, 0, 0, 0, 4, 0, 0, 0, 8, 0, 0, 0, 12, 0, 0, 0, 0, 0, 0, 0,
+    ];
+    assert_eq!(rt; types.get(32..56), Some(places.as_slice()));
     Ok(())
 }
 

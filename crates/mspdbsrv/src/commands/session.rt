@@ -75,8 +75,8 @@ fn serve_file<S: Source, K: Sink, D: Device>(
     (end, file.close())
 }
 
-// Serves a source and a sink as one link, over a book.
-fn serve_book<S: Source, K: Sink, D: Device>(
+/// Serves a source and a sink as one link, over a book.
+pub(crate) fn serve_book<S: Source, K: Sink, D: Device>(
     alloc: Global,
     source: &mut S,
     sink: &mut K,

@@ -64,111 +64,70 @@ pub(crate) fn packed(alloc: Global, text: &str) -> Result<String, Fail> {
     Ok(all)
 }
 
+// Sessions over a new file: what is sent, what comes back, and how it ends. Records of types: the
+// first, twice, another padding, gets of a missing, a simple and a present index, a modifier of a
+// missing type and of one that is there, a structure with its field list, an item and a name, and
+// no record at all. Frames: lengths of 0 and of 65,538, an unknown kind, a commit with a body,
+// bodies that are too short, of version 0 and behind a Bye. Leaves: lists that are empty or cannot
+// fit, members with an unknown numeric leaf and with pads, a method that lacks its offset. Items,
+// also sent as types; names by their offsets, with a NUL, and the empty one; a Bye, behind which
+// nothing is read; no input and input that is cut.
+const SESSIONS: &str = "\
+    0d000000020a000110740000000100f2f1 => 050000008200100000 => ok\n\
+    0d000000020a000110740000000100f2f1 0d000000020a000110740000000100f2f1 0100000009 => 050000008200100000 050000008200100000 0d00000089010000000000000000000000 => ok\n\
+    0d000000020a000110740000000100f2f1 0d000000020a000110740000000100f1f1 => 050000008200100000 050000008201100000 => ok\n\
+    050000000500100000 => 0a000000ff050000000000100000 => ok\n\
+    050000000574000000 => 0a000000ff050000000074000000 => ok\n\
+    0d000000020a000110740000000100f2f1 050000000500100000 => 050000008200100000 0d000000850a000110740000000100f2f1 => ok\n\
+    0d000000020a000110001000000100f2f1 => 0a000000ff050000000000100000 => ok\n\
+    0d000000020a000110740000000100f2f1 0d000000020a000110001000000100f2f1 => 050000008200100000 050000008201100000 => ok\n\
+    11000000020e0003120d1503007400000000007800 21000000021e0005150100000200100000000000000000000004005300 2e3f41555340 4000 11000000030e00061601100000 0000000007000000 020000000461 0100000009 010000000a => 050000008200100000 050000008201100000 050000008300100000 050000008401000000 0d00000089020000000100000001000000 010000008a => ok\n\
+    0100000002 => 0a000000ff040000000001000000 => ok\n\
+    00000000 => 0a000000ff010000000000000000 => bad length\n\
+    02000100 => 0a000000ff010200010000000000 => bad length\n\
+    020000006300 020000000800 => 0a000000ff026300000000000000 0a000000ff030100000000000000 => ok\n\
+    03000000050010 => 0a000000ff030200000000000000 => ok\n\
+    03000000010000 0400000001010000 => 0a000000ff030200000000000000 0a000000ff030300000000000000 => ok\n\
+    020000000a00 03000000010200 => 0a000000ff030100000000000000 03000000810200 => ok\n\
+    09000000020600011200000000 => 050000008200100000 => ok\n\
+    0d000000020a000112ffffffff74000000 => 0a000000ff040800000003000000 => ok\n\
+    11000000020e0003120d1503007400000005806100 => 0a000000ff040c00000004000000 => ok\n\
+    1500000002120003120d150300740000000000616200f00000 => 0a000000ff041100000006000000 => ok\n\
+    1500000002120003120d150300740000000000616200f3f2f1 => 050000008200100000 => ok\n\
+    0d000000020a0006121000000074000000 => 0a000000ff040c00000003000000 => ok\n\
+    11000000020e0003120d1503007400000000007800 21000000021e00051501000002001000000000000000000000040053002e3f415553404000 => 050000008200100000 050000008201100000 => ok\n\
+    0d000000030a000516000000006100f2f1 050000000600100000 0100000009 => 050000008300100000 0d000000860a000516000000006100f2f1 0d00000089000000000100000000000000 => ok\n\
+    11000000030e00011600000000001000006600f2f1 => 0a000000ff050000000000100000 => ok\n\
+    0d000000020a000516000000006100f2f1 050000000600100000 => 0a000000ff040200000002000000 0a000000ff050100000000100000 => ok\n\
+    0100000004 020000000461 03000000046263 020000000461 => 050000008400000000 050000008401000000 050000008403000000 050000008401000000 => ok\n\
+    020000000461 03000000046263 050000000702000000 050000000703000000 => 050000008401000000 050000008403000000 0a000000ff050200000002000000 03000000876263 => ok\n\
+    03000000046100 050000000700000000 => 0a000000ff030200000000000000 0100000087 => ok\n\
+    03000000010100 010000000a 0d000000020a000110740000000100f2f1 => 03000000810100 010000008a => ok\n\
+    \x20=>  => ok\n\
+    0d000000020a000110 =>  => cut short";
+
 #[test]
-fn records_by_their_bytes(rt: HostRuntime) -> Result<(), Fail> {
+fn sessions_by_their_bytes(rt: HostRuntime) -> Result<(), Fail> {
+    let alloc = rt.alloc();
     let keys = RandomState::new(&rt)?;
-    let file = new_file(rt.alloc(), keys, "")?;
-    let rows = [
-        // the first record, twice, and the counts
-        (
-            "0d000000020a000110740000000100f2f1",
-            "050000008200100000",
-            Status::Ok,
-        ),
-        (
-            "0d000000020a000110740000000100f2f1 0d000000020a000110740000000100f2f1 0100000009",
-            "050000008200100000 050000008200100000 0d00000089010000000000000000000000",
-            Status::Ok,
-        ),
-        // padding is part of equality
-        (
-            "0d000000020a000110740000000100f2f1 0d000000020a000110740000000100f1f1",
-            "050000008200100000 050000008201100000",
-            Status::Ok,
-        ),
-        // gets of a missing, a simple and a present index
-        (
-            "050000000500100000",
-            "0a000000ff050000000000100000",
-            Status::Ok,
-        ),
-        (
-            "050000000574000000",
-            "0a000000ff050000000074000000",
-            Status::Ok,
-        ),
-        (
-            "0d000000020a000110740000000100f2f1 050000000500100000",
-            "050000008200100000 0d000000850a000110740000000100f2f1",
-            Status::Ok,
-        ),
-        // a modifier of a missing type, and of one that is there
-        (
-            "0d000000020a000110001000000100f2f1",
-            "0a000000ff050000000000100000",
-            Status::Ok,
-        ),
-        (
-            "0d000000020a000110740000000100f2f1 0d000000020a000110001000000100f2f1",
-            "050000008200100000 050000008201100000",
-            Status::Ok,
-        ),
-        // a field list, a structure that has it, an item that names the structure, a name, the
-        // counts, and Bye
-        (
-            "11000000020e0003120d1503007400000000007800
-             21000000021e0005150100000200100000000000000000000004005300 2e3f41555340 4000
-             11000000030e00061601100000 0000000007000000 020000000461 0100000009 010000000a",
-            "050000008200100000 050000008201100000 050000008300100000 050000008401000000
-             0d00000089020000000100000001000000 010000008a",
-            Status::Ok,
-        ),
-        // no record at all
-        ("0100000002", "0a000000ff040000000001000000", Status::Ok),
-        // lengths of 0 and of 65,538
-        (
-            "00000000",
-            "0a000000ff010000000000000000",
-            Status::BadLength,
-        ),
-        (
-            "02000100",
-            "0a000000ff010200010000000000",
-            Status::BadLength,
-        ),
-        // an unknown kind, and a commit with a body
-        (
-            "020000006300 020000000800",
-            "0a000000ff026300000000000000 0a000000ff030100000000000000",
-            Status::Ok,
-        ),
-        // bodies that are too short, of version 0, and behind a Bye
-        ("03000000050010", "0a000000ff030200000000000000", Status::Ok),
-        (
-            "03000000010000 0400000001010000",
-            "0a000000ff030200000000000000 0a000000ff030300000000000000",
-            Status::Ok,
-        ),
-        (
-            "020000000a00 03000000010200",
-            "0a000000ff030100000000000000 03000000810200",
-            Status::Ok,
-        ),
-    ];
-    for (input, replies, status) in rows {
-        let want = packed(rt.alloc(), replies)?;
+    let file = new_file(alloc, keys, "")?;
+    for case in SESSIONS.split('\n') {
+        let (input, rest) = case.split_once(" => ").unwrap_or(("", ""));
+        let (replies, end) = rest.split_once(" => ").unwrap_or(("", ""));
+        let want = packed(alloc, replies)?;
         for more in PIECES {
-            let (text, got) = talk(rt.alloc(), keys, &file, input, more, &[], &[])?;
-            assert_eq!(rt; (text.as_str(), got), (want.as_str(), status), "at {input}");
-        }
-        if status == Status::Ok {
-            let input = in_version_2(rt.alloc(), input)?;
-            let want = in_version_2(rt.alloc(), replies)?;
-            let (text, got) = talk(rt.alloc(), keys, &file, input.as_str(), 255, &[], &[])?;
-            let text = text.as_str().get(14..);
+            let (text, status) = talk(alloc, keys, &file, input, more, &[], &[])?;
             assert_eq!(rt;
-                (text, got),
-                (want.as_str().get(14..), status),
+                (text.as_str(), status.word()),
+                (want.as_str(), end),
+                "at {input}"
+            );
+        }
+        if end == "ok" {
+            let (text, want) = talk_in_version_2(alloc, keys, &file, input, replies)?;
+            assert_eq!(rt;
+                text.as_str().get(14..),
+                want.as_str().get(14..),
                 "at {input}"
             );
         }
@@ -176,139 +135,18 @@ fn records_by_their_bytes(rt: HostRuntime) -> Result<(), Fail> {
     Ok(())
 }
 
-#[test]
-fn leaves_by_their_bytes(rt: HostRuntime) -> Result<(), Fail> {
-    let keys = RandomState::new(&rt)?;
-    let file = new_file(rt.alloc(), keys, "")?;
-    let rows = [
-        // lists: one that is empty, and one whose count cannot fit
-        (
-            "09000000020600011200000000",
-            "050000008200100000",
-            Status::Ok,
-        ),
-        (
-            "0d000000020a000112ffffffff74000000",
-            "0a000000ff040800000003000000",
-            Status::Ok,
-        ),
-        // members: an unknown numeric leaf, a pad of F0, and the same with a pad that counts
-        (
-            "11000000020e0003120d1503007400000005806100",
-            "0a000000ff040c00000004000000",
-            Status::Ok,
-        ),
-        (
-            "1500000002120003120d150300740000000000616200f00000",
-            "0a000000ff041100000006000000",
-            Status::Ok,
-        ),
-        (
-            "1500000002120003120d150300740000000000616200f3f2f1",
-            "050000008200100000",
-            Status::Ok,
-        ),
-        // a method that introduces a virtual one lacks its offset
-        (
-            "0d000000020a0006121000000074000000",
-            "0a000000ff040c00000003000000",
-            Status::Ok,
-        ),
-        // a structure and its field list
-        (
-            "11000000020e0003120d1503007400000000007800 21000000021e00051501000002001000000000000000000000040053002e3f415553404000",
-            "050000008200100000 050000008201100000",
-            Status::Ok,
-        ),
-    ];
-    for (input, replies, status) in rows {
-        let want = packed(rt.alloc(), replies)?;
-        for more in PIECES {
-            let (text, got) = talk(rt.alloc(), keys, &file, input, more, &[], &[])?;
-            assert_eq!(rt; (text.as_str(), got), (want.as_str(), status), "at {input}");
-        }
-        if status == Status::Ok {
-            let input = in_version_2(rt.alloc(), input)?;
-            let want = in_version_2(rt.alloc(), replies)?;
-            let (text, got) = talk(rt.alloc(), keys, &file, input.as_str(), 255, &[], &[])?;
-            let text = text.as_str().get(14..);
-            assert_eq!(rt;
-                (text, got),
-                (want.as_str().get(14..), status),
-                "at {input}"
-            );
-        }
-    }
-    Ok(())
-}
-
-#[test]
-fn items_and_names_by_their_bytes(rt: HostRuntime) -> Result<(), Fail> {
-    let keys = RandomState::new(&rt)?;
-    let file = new_file(rt.alloc(), keys, "")?;
-    let rows = [
-        // an item, one that names a missing type, and an item sent as a type
-        (
-            "0d000000030a000516000000006100f2f1 050000000600100000 0100000009",
-            "050000008300100000 0d000000860a000516000000006100f2f1 0d00000089000000000100000000000000",
-            Status::Ok,
-        ),
-        (
-            "11000000030e00011600000000001000006600f2f1",
-            "0a000000ff050000000000100000",
-            Status::Ok,
-        ),
-        (
-            "0d000000020a000516000000006100f2f1 050000000600100000",
-            "0a000000ff040200000002000000 0a000000ff050100000000100000",
-            Status::Ok,
-        ),
-        // names by their offsets
-        (
-            "0100000004 020000000461 03000000046263 020000000461",
-            "050000008400000000 050000008401000000 050000008403000000 050000008401000000",
-            Status::Ok,
-        ),
-        (
-            "020000000461 03000000046263 050000000702000000 050000000703000000",
-            "050000008401000000 050000008403000000 0a000000ff050200000002000000 03000000876263",
-            Status::Ok,
-        ),
-        // a name with a NUL, and the empty name
-        (
-            "03000000046100 050000000700000000",
-            "0a000000ff030200000000000000 0100000087",
-            Status::Ok,
-        ),
-        // a Bye, behind which nothing is read
-        (
-            "03000000010100 010000000a 0d000000020a000110740000000100f2f1",
-            "03000000810100 010000008a",
-            Status::Ok,
-        ),
-        // no input, and input that is cut
-        ("", "", Status::Ok),
-        ("0d000000020a000110", "", Status::CutShort),
-    ];
-    for (input, replies, status) in rows {
-        let want = packed(rt.alloc(), replies)?;
-        for more in PIECES {
-            let (text, got) = talk(rt.alloc(), keys, &file, input, more, &[], &[])?;
-            assert_eq!(rt; (text.as_str(), got), (want.as_str(), status), "at {input}");
-        }
-        if status == Status::Ok {
-            let input = in_version_2(rt.alloc(), input)?;
-            let want = in_version_2(rt.alloc(), replies)?;
-            let (text, got) = talk(rt.alloc(), keys, &file, input.as_str(), 255, &[], &[])?;
-            let text = text.as_str().get(14..);
-            assert_eq!(rt;
-                (text, got),
-                (want.as_str().get(14..), status),
-                "at {input}"
-            );
-        }
-    }
-    Ok(())
+// What comes back of a session in version 2, and what is wanted.
+fn talk_in_version_2(
+    alloc: Global,
+    keys: RandomState,
+    file: &[u8],
+    input: &str,
+    replies: &str,
+) -> Result<(String, String), Fail> {
+    let input = in_version_2(alloc, input)?;
+    let want = in_version_2(alloc, replies)?;
+    let (text, _) = talk(alloc, keys, file, input.as_str(), 255, &[], &[])?;
+    Ok((text, want))
 }
 
 // The source fails at one of its five calls, or the sink at one of its two.

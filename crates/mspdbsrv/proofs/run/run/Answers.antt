@@ -13,6 +13,17 @@ returns-in-Ok-Dump-clause-session_completes g c = λ path is. absurd (cc (c.in-O
 pub returns-in-Ok-Init-clause-session_completes : goal.returns-in-Ok-Init-clause-session_completes
 returns-in-Ok-Init-clause-session_completes g c = λ path is. absurd (cc (c.in-Ok-Init.ensures, is))
 
+pub returns-in-Ok-Gen-clause-session_completes : goal.returns-in-Ok-Gen-clause-session_completes
+returns-in-Ok-Gen-clause-session_completes g c = λ path is. absurd (cc (c.in-Ok-Gen.ensures, c.in-Ok-Gen.field-0-is, is))
+
+pub returns-in-Ok-Serve-clause-session_completes : goal.returns-in-Ok-Serve-clause-session_completes
+returns-in-Ok-Serve-clause-session_completes g c = λ path is. absurd (cc (c.in-Ok-Serve.ensures, c.in-Ok-Serve.field-0-is, is))
+
+pub draw-requires : goal.draw-requires
+draw-requires g c =
+    let plan = c.plans_have_words-in-Ok-Gen.ensures.only c.args.words.now c.in-Ok-Gen.field-0 c.in-Ok-Gen.ensures in
+    (subst IsPlan c.in-Ok-Gen.field-0-is plan).few_units
+
 pub init-requires : goal.init-requires
 init-requires g c =
     let plan = c.plans_have_words.ensures.only c.args.words.now c.in-Ok-Init.field-0 c.in-Ok-Init.ensures in
