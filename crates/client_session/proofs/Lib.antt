@@ -8,4 +8,5 @@ mod Answering
 mod Passing
 mod Ending
 pub mod Sharing
+mod Leaves
 mod Listing

@@ -138,10 +138,10 @@ begins_on a b c one two = record { rest = one.rest ++ two.rest; whole = two.whol
 pub begins_more : (a b c more : List Entry) → Begins a b → c ≡ b ++ more → Begins a c
 begins_more a b c more one is = begins_on a b c one (record { rest = more; whole = is })
 
-same_self : (p : PassView) → IsSamePass p p
+pub same_self : (p : PassView) → IsSamePass p p
 same_self p = (refl, refl, refl, refl, refl)
 
-same_on : (p q r : PassView) → IsSamePass p q → IsSamePass q r → IsSamePass p r
+pub same_on : (p q r : PassView) → IsSamePass p q → IsSamePass q r → IsSamePass p r
 same_on p q r a b = (b.0 ∙ a.0, b.1 ∙ a.1, b.2 ∙ a.2, b.3 ∙ a.3, b.4 ∙ a.4)
 
 abbrev IsBy : ℕ → Entry → Type 0

@@ -1,7 +1,6 @@
 -- What a session may answer over tables and their file, as its requests and replies so far tell.
 use Rattle.std.specs.Prelude.{◌≡◌, ◌<◌, ◌⊎◌, ◌+◌, ◌-◌, ◌^◌, ℕ, List, [], ◌∷◌, ◌++◌}
-use Rattle.request_frames.specs.declared.commit_kind.TheConstants.{COMMIT}
-use Rattle.srv_edge.specs.declared.kind.TheConstants.{REPLY}
+use Rattle.srv_edge.specs.declared.kind.TheConstants.{COMMIT, REPLY}
 use Rattle.srv_edge.specs.declared.failed.Refusal.TheVariants.{DiskFault, Full, OutOfMemory, Underway}
 use Rattle.srv_edge.specs.Frames.{Message, word_bytes}
 use Rattle.request_frames.specs.Refusals.{refusal_message}

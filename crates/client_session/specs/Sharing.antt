@@ -1,14 +1,14 @@
 -- What a desk over a hub answers: each request by a call of its pass, behind what others have filed.
-use Rattle.std.specs.Prelude.{◌≡◌, ◌+◌, ◌≤◌, ◌⊎◌, ⊤, ℕ, List, [], ◌∷◌, ◌++◌, All, Result, IsErrAnd}
+use Rattle.std.specs.Prelude.{◌≡◌, ◌+◌, ◌≤◌, ◌⊎◌, ⊤, ℕ, List, [], ◌∷◌, ◌++◌, All, Result, IsOk, IsErrAnd}
 use Rattle.leaf_grammar.specs.declared.grammar.Space.{Space}
 use Rattle.leaf_grammar.specs.declared.grammar.Space.TheVariants.{Types, Items}
 use Rattle.leaf_grammar.specs.Leaf.{leaf_of}
-use Rattle.request_frames.specs.declared.commit_kind.TheConstants.{COMMIT}
-use Rattle.srv_edge.specs.declared.kind.TheConstants.{GET_ITEM, GET_NAME, GET_TYPE, REPLY}
+use Rattle.srv_edge.specs.declared.kind.TheConstants.{COMMIT, GET_ITEM, GET_NAME, GET_TYPE, REPLY}
 use Rattle.srv_edge.specs.declared.failed.Refusal.{Refusal}
 use Rattle.srv_edge.specs.declared.failed.Refusal.TheVariants.{Malformed, NotGiven, Full, Underway, DiskFault, OutOfMemory}
 use Rattle.srv_edge.specs.declared.head.Head.{Head}
 use Rattle.srv_edge.specs.Frames.{Message, frame_bytes}
+use Rattle.srv_edge.specs.Records.{joined}
 use Rattle.call_journal.specs.declared.deed.TableKind.{TableKind}
 use Rattle.call_journal.specs.declared.deed.TableKind.TheVariants as table
 use Rattle.turnstile.specs.declared.history.Entry.{Entry}
@@ -21,10 +21,10 @@ use Rattle.table_model.specs.Calls.{index_answer}
 use Rattle.core_model.specs.History.{IsLegal}
 use Rattle.core_model.specs.Legal.{faulted_ends}
 use Rattle.hub.specs.Passes.{Commits, IsAnswered, IsMalformed, IsNotBegun, IsRefused, IsRefusedUnderWay}
-use Rattle.request_frames.specs.Lists.{AreRecords}
+use Rattle.request_frames.specs.Lists.{AreListed, AreRecords}
 use Rattle.request_frames.specs.Requests.{Asked}
 use Rattle.request_frames.specs.Talk.{AnswersWith}
-use Rattle.client_session.specs.Tables.{Calls, none, one, each, of_file, answer_message, call_to_add, calls_of, greeting, index_reply, part_of, reply_kind}
+use Rattle.client_session.specs.Tables.{Calls, none, one, each, of_file, answer_message, call_to_add, calls_of, greeting, index_reply, kind_of_list, part_of, reply_kind}
 
 -- A call has its place in the history and is answered there; or it has no entry.
 abbrev pub TakesPlace : PassView → Call → Result Outcome Refusal → PassView → Type 0
@@ -96,6 +96,15 @@ pub record PutsCommit (head : Head) (old : PassView) (out : List ℕ) (new : Pas
   pub answered : Result ℕ Refusal
   pub spelled : out ≡ frame_bytes (record { head = head; message = index_reply (COMMIT + REPLY) answered })
   pub called : CommitsBy old answered new
+
+-- Records were added by a pass, and their parts stand in a piece as the reply to their list.
+abbrev pub PutsParts : Head → Space → PassView → List ℕ → List ℕ → PassView → Type 0
+PutsParts head space old list out new =
+    (parts : List ℕ) × (out ≡ frame_bytes (record { head = head; message = record { kind = kind_of_list space + REPLY; body = parts } })) × AddsListBy space old list parts new
+
+-- bytes that are records, one after another, are leaves of a space, all of them
+abbrev pub AreLeaves : Space → List ℕ → Type 0
+AreLeaves space bytes = (records : List (List ℕ)) → AreListed records → bytes ≡ joined records → All (λ r. IsOk (leaf_of space r)) records
 
 -- what an add may be refused for: what it is, what it names, a limit of the tables or of the calls, or want of memory
 abbrev pub RefusesAdd : Refusal → Type 0

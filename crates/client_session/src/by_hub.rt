@@ -1,24 +1,23 @@
-ghost use Rattle.std.specs.Prelude.{◌≡◌, ◌≤◌, ◌+◌, ℕ, List, [], length};
+ghost use Rattle.std.specs.Prelude.{◌≡◌, ◌≤◌, ◌+◌, [], length};
 ghost use Rattle.hub.specs.Calls.{Gives, answer_of_get, get_of};
 ghost use Rattle.hub.specs.Ends.{AreEnded};
-ghost use Rattle.request_frames.specs.Lists.{IsRecordList};
 ghost use Rattle.request_frames.specs.Requests.{IsAsked, asked};
 ghost use Rattle.request_frames.specs.Talk.{PutsReply};
 ghost use Rattle.srv_edge.specs.declared.kind.TheConstants as kinds;
 ghost use Rattle.srv_edge.specs.declared.piece.TheConstants.{PIECE_BYTES};
-ghost use Rattle.srv_edge.specs.Frames.{IsHead, frame_bytes};
+ghost use Rattle.srv_edge.specs.Frames.{IsHead};
 ghost use Rattle.table_model.specs.Calls.{index_answer};
 ghost use Rattle.table_model.specs.declared.call.Call.TheVariants as calls;
 ghost use Rattle.turnstile.specs.Passes.{IsIdleAt};
-ghost use Rattle.client_session.specs.Sharing.{AddsListBy, CallsBy, PutsCall, PutsCommit, SharedWithCauses, kind_of_get};
-ghost use Rattle.client_session.specs.Tables.{call_to_add, kind_of_list};
+ghost use Rattle.client_session.specs.Sharing.{CallsBy, PutsCall, PutsCommit, SharedWithCauses, kind_of_get};
+ghost use Rattle.client_session.specs.Tables.{call_to_add};
 
-use crate::answer::list_kind;
-use crate::replies::{part_for, write_counts, write_hello, write_index, write_reply};
+use crate::listed::add_list;
+use crate::replies::{write_counts, write_hello, write_index, write_reply};
 use call_journal::TableKind;
 use hub::{Hub, HubPass};
 use leaf_grammar::Space;
-use request_frames::{COMMIT, Head, Request, next_record, push_part, take_in, write_refusal};
+use request_frames::{Head, Request, take_in, write_refusal};
 use srv_edge::{Device, Piece, Refusal, kind};
 use std::sync::Wait;
 
@@ -65,7 +64,7 @@ pub(crate) fn answer_by_hub<D: Device>(
 }
 
 // Adds a record to the table of its space.
-fn add<D: Device>(
+pub(crate) fn add<D: Device>(
     hub: &Hub<D>,
     rt: &impl Wait,
     pass: &mut HubPass<D>,
@@ -156,7 +155,7 @@ fn commit<D: Device>(
     ensures puts { PutsCommit head pass.old out.new pass.new }
     ensures idle { IsIdleAt hub.now pass.new }
 {
-    write_index(head, COMMIT, hub.commit(rt, pass), out);
+    write_index(head, kind::COMMIT, hub.commit(rt, pass), out);
 }
 
 // Replies with how many types, items and names there are.
@@ -176,35 +175,5 @@ fn count<D: Device>(
     match hub.counts(rt, pass) {
         Ok(counts) => write_counts(head, counts.types, counts.items, counts.names, out),
         Err(refusal) => write_refusal(head, &refusal, out),
-    }
-}
-
-// Adds the records of a list one after another, and replies with the part of each.
-fn add_list<D: Device>(
-    hub: &Hub<D>,
-    rt: &impl Wait,
-    pass: &mut HubPass<D>,
-    head: Head,
-    space: Space,
-    list: &[u8],
-    out: &mut Piece,
-)
-    requires list { IsRecordList list.now }
-    requires empty { out.old ≡ [] }
-    requires idle { IsIdleAt hub.now pass.old }
-    ensures puts { (parts : List ℕ)
-        × (out.new ≡ frame_bytes (record {
-          head = head;
-          message = record { kind = kind_of_list space + kinds.REPLY; body = parts };
-        }))
-        × AddsListBy space pass.old list.now parts pass.new }
-    ensures idle { IsIdleAt hub.now pass.new }
-{
-    write_reply(head, list_kind(space), &[], out);
-    let mut at = 0;
-    while let Some(record) = next_record(list, at) {
-        let part = part_for(add(hub, rt, pass, space, record));
-        push_part(&part, out);
-        at += record.len();
     }
 }

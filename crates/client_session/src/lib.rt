@@ -3,7 +3,12 @@
 
 mod answer;
 mod by_hub;
+#[cfg(test)]
+mod changed_blocks_tests;
+#[cfg(test)]
+mod failing_tests;
 mod laws;
+mod listed;
 mod replies;
 mod shared;
 mod solo;

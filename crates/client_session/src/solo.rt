@@ -1,6 +1,5 @@
 ghost use Rattle.std.specs.Prelude.{◌≡◌, ◌+◌, ◌∷◌, is_some, true};
-ghost use Rattle.request_frames.specs.declared.commit_kind.TheConstants.{COMMIT};
-ghost use Rattle.srv_edge.specs.declared.kind.TheConstants.{REPLY};
+ghost use Rattle.srv_edge.specs.declared.kind.TheConstants as kinds;
 ghost use Rattle.type_store.specs.Files.{HasBounds};
 ghost use Rattle.type_store.specs.Committed.{GoesOn};
 ghost use Rattle.type_store.specs.Views.{tables_in};
@@ -12,8 +11,8 @@ use crate::answer::answer_by_tables;
 use crate::replies::write_index;
 use committer::CommitFault;
 use hub::Book;
-use request_frames::{COMMIT, Desk, Head, Request};
-use srv_edge::{Device, Piece, Refusal};
+use request_frames::{Desk, Head, Request};
+use srv_edge::{Device, Piece, Refusal, kind};
 use std::alloc::Global;
 use type_store::{PdbFile, Tables};
 
@@ -49,7 +48,7 @@ impl<'a, D: Device> Desk for Solo<'a, D> {
     fn answer(&mut self, _ground: &(), head: Head, request: &Request, out: &mut Piece) {
         let book = &mut *self.book;
         match *request {
-            Request::Commit => write_index(head, COMMIT, commit(self.alloc, book), out),
+            Request::Commit => write_index(head, kind::COMMIT, commit(self.alloc, book), out),
             _ => answer_by_tables(&mut book.tables, head, request, out),
         }
     }
@@ -59,9 +58,9 @@ impl<'a, D: Device> Desk for Solo<'a, D> {
 fn commit<D: Device>(alloc: Global, book: &mut Book<D>) -> Result<u32, Refusal>
     requires { is_some book.old.file ≡ true }
     ensures commits { CommitsTo D.Device book.old.file book.old.tables
-        (index_reply (COMMIT + REPLY) result) book.new.file }
+        (index_reply (kinds.COMMIT + kinds.REPLY) result) book.new.file }
     ensures tables { book.new.tables ≡ book.old.tables }
-    ensures acked { Acknowledges book.old.acked (index_reply (COMMIT + REPLY) result)
+    ensures acked { Acknowledges book.old.acked (index_reply (kinds.COMMIT + kinds.REPLY) result)
         book.new.acked }
     ensures loans { loans_of D.loans book.new.file ≡ loans_of D.loans book.old.file }
 {
@@ -84,7 +83,7 @@ fn commit_to<D: Device>(
     requires goes_on { GoesOn (newest_cut file.old.file).tables (tables_in tables.now) }
     requires bounds { HasBounds file.old.bounds (tables_in tables.now) }
     ensures commits { Commits D.Device file.old (tables_in tables.now)
-        (index_reply (COMMIT + REPLY) result) file.new }
+        (index_reply (kinds.COMMIT + kinds.REPLY) result) file.new }
     ensures goes_on { GoesOn (newest_cut file.new.file).tables (tables_in tables.now) }
     ensures bounds { file.new.bounds ≡ file.old.bounds }
     ensures loans { D.loans file.new.device ≡ D.loans file.old.device }

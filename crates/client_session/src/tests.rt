@@ -11,8 +11,8 @@ use std::hash::RandomState;
 use std::test::Fail;
 use type_store::PdbFile;
 
-// The bytes of a hexadecimal text with spaces.
-fn bytes_of(alloc: Global, text: &str) -> Result<Vec<u8>, Fail> {
+/// The bytes of a hexadecimal text with spaces.
+pub(crate) fn bytes_of(alloc: Global, text: &str) -> Result<Vec<u8>, Fail> {
     let mut bytes = Vec::new(alloc);
     for part in text.split_whitespace() {
         bytes.extend_from_slice(&hex::decode(alloc, part)?)?;
@@ -20,8 +20,12 @@ fn bytes_of(alloc: Global, text: &str) -> Result<Vec<u8>, Fail> {
     Ok(bytes)
 }
 
-// A desk's replies to frames, over a book.
-fn served(alloc: Global, book: &mut Book<MemDevice>, frames: Vec<u8>) -> Result<Vec<u8>, Fail>
+/// A desk's replies to frames, over a book.
+pub(crate) fn served(
+    alloc: Global,
+    book: &mut Book<MemDevice>,
+    frames: Vec<u8>,
+) -> Result<Vec<u8>, Fail>
     requires { is_some book.old.file ≡ true }
 {
     let mut room = Room::new(alloc)?;
@@ -30,12 +34,12 @@ fn served(alloc: Global, book: &mut Book<MemDevice>, frames: Vec<u8>) -> Result<
         sink: MemSink::new(alloc, Vec::new(alloc)),
     };
     let mut desk = Solo::new(alloc, book);
-    serve_link(&(), &mut link, &mut desk, 1_000_000, &mut room);
+    serve_link(&(), &mut link, &mut desk, 10_000_000, &mut room);
     Ok(link.sink.taken().to_vec(alloc)?)
 }
 
-// The same over a new file with these limits.
-fn replies(
+/// The same over a new file with these limits.
+pub(crate) fn replies(
     alloc: Global,
     keys: RandomState,
     limits: Limits,

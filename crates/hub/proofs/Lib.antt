@@ -1,4 +1,5 @@
 pub mod Adding
+pub mod Ahead
 pub mod Answering
 pub mod Beginning
 pub mod Closing

@@ -6,3 +6,4 @@ pub mod Kept
 pub mod Passes
 pub mod Refusals
 pub mod Stories
+pub mod Turns

@@ -15,6 +15,7 @@ ghost use Rattle.turnstile.specs.Histories.{Begins};
 ghost use Rattle.turnstile.specs.Passes.{IsIdleAt, IsSamePass, IsSound};
 
 use crate::hub::{Hub, HubPass};
+use crate::turns::add_judged;
 use crate::under_way::{Done, Out};
 use call_journal::TableKind;
 use leaf_grammar::{Space, check};
@@ -163,7 +164,7 @@ impl<D: Device> Hub<D> {
     {
         let caller = pass.number();
         let mut turn = self.gate.take_turn(rt, pass);
-        match turn.value().counts(caller) {
+        match turn.value().state.counts(caller) {
             Ok(counts) => {
                 turn.file();
                 turn.leave();
@@ -192,19 +193,10 @@ impl<D: Device> Hub<D> {
         ensures sound { IsSound IsLegal pass.new }
         ensures idle { IsIdleAt self.now pass.new }
     {
-        let caller = pass.number();
-        let mut turn = self.gate.take_turn(rt, pass);
-        match turn.value().add(caller, kind, bytes) {
-            Ok(reply) => {
-                turn.file();
-                turn.leave();
-                reply
-            }
-            Err(refusal) => {
-                turn.leave();
-                Err(refusal)
-            }
-        }
+        let mut turn = self.take_turn(rt, pass);
+        let reply = add_judged(&mut turn, kind, bytes);
+        turn.leave();
+        reply
     }
 
     // One turn, in which what stands in a table is put behind what the piece holds.
@@ -227,7 +219,7 @@ impl<D: Device> Hub<D> {
     {
         let caller = pass.number();
         let mut turn = self.gate.take_turn(rt, pass);
-        match turn.value().get(caller, kind, at, out) {
+        match turn.value().state.get(caller, kind, at, out) {
             Ok(reply) => {
                 turn.file();
                 turn.leave();

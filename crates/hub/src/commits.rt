@@ -24,7 +24,7 @@ impl<D: Device> Hub<D> {
     {
         let caller = pass.number();
         let mut turn = self.gate.take_turn(rt, pass);
-        match turn.value().begin(caller) {
+        match turn.value().state.begin(caller) {
             Ok(reply) => {
                 turn.file();
                 turn.leave();
@@ -56,7 +56,7 @@ impl<D: Device> Hub<D> {
     {
         let caller = pass.number();
         let mut turn = self.gate.take_turn(rt, pass);
-        let reply = turn.value().end(caller, done);
+        let reply = turn.value().state.end(caller, done);
         turn.file();
         turn.leave();
         reply

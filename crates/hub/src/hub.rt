@@ -12,18 +12,19 @@ ghost use Rattle.type_store.specs.Files.{FileView};
 use crate::book::Book;
 use crate::end::Ended;
 use crate::state::HubState;
+use crate::value::HubValue;
 use srv_edge::{Device, Limits};
 use std::alloc::Global;
 use std::marker::Model;
 use turnstile::{Note, Pass, Turnstile};
 
 /// A caller's token for a hub.
-pub type HubPass<D> = Pass<HubState<D>>;
+pub type HubPass<D> = Pass<HubValue<D>>;
 
 /// Tables and a file that threads share. They take turns at it, each by a pass of its own, and all
 /// calls have one history. It is shared by reference, and has to be closed in the end.
 pub struct Hub<D: Device> {
-    pub(crate) gate: Turnstile<HubState<D>>,
+    pub(crate) gate: Turnstile<HubValue<D>>,
 }
 
 impl<D: Device> Model for Hub<D> {
@@ -51,9 +52,13 @@ impl<D: Device> Hub<D> {
         ensures err { IfErr result (λ b. b ≡ book) }
     {
         let state = HubState::of_book(alloc, book, limits);
-        match Turnstile::new(alloc, state) {
+        let value = match HubValue::new(alloc, state) {
+            Ok(value) => value,
+            Err(state) => return Err(state.into_ended().book),
+        };
+        match Turnstile::new(alloc, value) {
             Ok((gate, first)) => Ok((Hub { gate }, first)),
-            Err(state) => Err(state.into_ended().book),
+            Err(value) => Err(value.into_state().into_ended().book),
         }
     }
 
@@ -70,7 +75,7 @@ impl<D: Device> Hub<D> {
     }
 
     /// A note of what the pass has seen.
-    pub fn note(&self, pass: &mut HubPass<D>) -> Note<HubState<D>>
+    pub fn note(&self, pass: &mut HubPass<D>) -> Note<HubValue<D>>
         requires idle { IsIdleAt self.now pass.old }
         ensures same { pass.new ≡ pass.old }
         ensures sound { IsSound IsLegal pass.new }
@@ -80,7 +85,7 @@ impl<D: Device> Hub<D> {
     }
 
     /// The pass sees the whole history, and with it all that the note's giver had seen.
-    pub fn meet(&self, pass: &mut HubPass<D>, note: Note<HubState<D>>)
+    pub fn meet(&self, pass: &mut HubPass<D>, note: Note<HubValue<D>>)
         requires idle { IsIdleAt self.now pass.old }
         requires note { note.turnstile ≡ self.now }
         ensures seen { Begins pass.old.seen pass.new.seen }
@@ -135,6 +140,6 @@ impl<D: Device> Hub<D> {
         ensures { IsClosed D.Device first result }
     {
         let Hub { gate } = self;
-        gate.close(first).into_ended()
+        gate.close(first).into_state().into_ended()
     }
 }

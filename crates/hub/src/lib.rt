@@ -15,11 +15,14 @@ mod places;
 mod state;
 #[cfg(test)]
 mod tests;
+mod turns;
 mod under_way;
+mod value;
 
 pub use crate::book::Book;
 pub use crate::end::Ended;
 pub use crate::hub::{Hub, HubPass};
 pub use crate::places::CALLS;
-pub use crate::state::HubState;
+pub use crate::turns::{HubTurn, add_leaf};
 pub use crate::under_way::{Done, Out};
+pub use crate::value::HubValue;

@@ -1,4 +1,4 @@
-ghost use Rattle.std.specs.Prelude.{◌≡◌, [], Some};
+ghost use Rattle.std.specs.Prelude.{◌≡◌, [], Some, length};
 
 use crate::book::Book;
 use crate::gets::counts_of;
@@ -7,7 +7,6 @@ use srv_edge::{Device, Limits};
 use std::alloc::Global;
 use std::marker::Model;
 use std::snapshot::Snapshot;
-use turnstile::Historied;
 use type_store::{Counts, PdbFile, Tables};
 
 /// The tables of a server, their file while no commit is under way, and the journal of the calls
@@ -55,6 +54,7 @@ impl<D: Device> Model for HubState<D> {
 }
 
 impl<D: Device> HubState<D> {
+    ghost use Rattle.core_model.specs.History.{IsLegal};
     ghost use Rattle.hub.specs.Bases.{basis_of};
     ghost use Rattle.hub.specs.Ends.{IsNew};
     ghost use Rattle.type_store.specs.Files.{FileView};
@@ -91,18 +91,12 @@ impl<D: Device> HubState<D> {
             first,
         }
     }
-}
 
-impl<D: Device> Historied for HubState<D> {
-    ghost use Rattle.core_model.specs.History.{IsLegal};
-
-    ghost basis = { λ s. s.story.basis };
-
-    ghost entries = { λ s. s.story.entries };
-
-    ghost law = { IsLegal };
-
-    fn filed(&self) -> u32 {
+    // The number of entries.
+    pub(crate) fn filed(&self) -> u32
+        ensures count { result ≡ length self.now.story.entries }
+        ensures lawful { IsLegal self.now.story.basis self.now.story.entries }
+    {
         self.journal.len()
     }
 }

@@ -1,7 +1,6 @@
 -- Replies as messages, in both versions.
 use Rattle.std.specs.Prelude.{◌≡◌, ◌≢◌, ◌≤◌, ◌+◌, ◌⊎◌, ⊤, ℕ, [], ◌++◌, length, All}
 use Rattle.srv_edge.specs.declared.code.TheConstants as codes
-use Rattle.request_frames.specs.declared.commit_kind.TheConstants.{COMMIT}
 use Rattle.srv_edge.specs.declared.kind.TheConstants as kinds
 use Rattle.srv_edge.specs.declared.space.TheConstants as spaces
 use Rattle.srv_edge.specs.Frames.{Message, half_bytes, refused, word_bytes}
@@ -18,7 +17,7 @@ reply_message (AddedName offset) = record { kind = kinds.ADD_NAME + kinds.REPLY;
 reply_message (GotType r) = record { kind = kinds.GET_TYPE + kinds.REPLY; body = r.now }
 reply_message (GotItem r) = record { kind = kinds.GET_ITEM + kinds.REPLY; body = r.now }
 reply_message (GotName name) = record { kind = kinds.GET_NAME + kinds.REPLY; body = name.now }
-reply_message (Committed number) = record { kind = COMMIT + kinds.REPLY; body = word_bytes number }
+reply_message (Committed number) = record { kind = kinds.COMMIT + kinds.REPLY; body = word_bytes number }
 reply_message (Counted types items names) = record { kind = kinds.COUNTS + kinds.REPLY; body = word_bytes types ++ word_bytes items ++ word_bytes names }
 reply_message Bye = record { kind = kinds.BYE + kinds.REPLY; body = [] }
 reply_message (Parts space parts) = record { kind = kinds.ADD_TYPES + space + kinds.REPLY; body = parts.now }
@@ -34,7 +33,7 @@ IsCommonReplyKind kind =
     ⊎ (kind ≡ kinds.GET_TYPE + kinds.REPLY)
     ⊎ (kind ≡ kinds.GET_ITEM + kinds.REPLY)
     ⊎ (kind ≡ kinds.GET_NAME + kinds.REPLY)
-    ⊎ (kind ≡ COMMIT + kinds.REPLY)
+    ⊎ (kind ≡ kinds.COMMIT + kinds.REPLY)
     ⊎ (kind ≡ kinds.COUNTS + kinds.REPLY)
     ⊎ (kind ≡ kinds.BYE + kinds.REPLY)
     ⊎ (kind ≡ kinds.REFUSED)

@@ -2,7 +2,6 @@
 use Rattle.std.specs.Prelude.{◌≡◌, ◌≢◌, ◌≤◌, ◌<◌, ◌==◌, ◌+◌, ◌^◌, ◌⊎◌, ⊤, ℕ, List, [], length, drop, slice_index, if◌then◌else◌}
 use Rattle.byteorder.specs.Endian.{little_number}
 use Rattle.srv_edge.specs.declared.head.Head.{Head}
-use Rattle.request_frames.specs.declared.commit_kind.TheConstants.{COMMIT}
 use Rattle.srv_edge.specs.declared.kind.TheConstants as kinds
 use Rattle.srv_edge.specs.declared.limit.TheConstants.{RECORD_BYTES}
 use Rattle.srv_edge.specs.Name.{IsName}
@@ -50,7 +49,7 @@ request_message (add_name name) = record { kind = kinds.ADD_NAME; body = name }
 request_message (get_type index) = record { kind = kinds.GET_TYPE; body = word_bytes index }
 request_message (get_item index) = record { kind = kinds.GET_ITEM; body = word_bytes index }
 request_message (get_name offset) = record { kind = kinds.GET_NAME; body = word_bytes offset }
-request_message commit = record { kind = COMMIT; body = [] }
+request_message commit = record { kind = kinds.COMMIT; body = [] }
 request_message counts = record { kind = kinds.COUNTS; body = [] }
 request_message bye = record { kind = kinds.BYE; body = [] }
 request_message (add_types list) = record { kind = kinds.ADD_TYPES; body = list }
@@ -89,7 +88,7 @@ FitsFrame (add_items list) = length list ≤ RECORD_BYTES
 -- the kinds of requests of both versions
 abbrev pub IsCommonKind : ℕ → Type 0
 IsCommonKind kind = (kind ≡ kinds.HELLO) ⊎ (kind ≡ kinds.ADD_TYPE) ⊎ (kind ≡ kinds.ADD_ITEM) ⊎ (kind ≡ kinds.ADD_NAME) ⊎ (kind ≡ kinds.GET_TYPE)
-    ⊎ (kind ≡ kinds.GET_ITEM) ⊎ (kind ≡ kinds.GET_NAME) ⊎ (kind ≡ COMMIT) ⊎ (kind ≡ kinds.COUNTS) ⊎ (kind ≡ kinds.BYE)
+    ⊎ (kind ≡ kinds.GET_ITEM) ⊎ (kind ≡ kinds.GET_NAME) ⊎ (kind ≡ kinds.COMMIT) ⊎ (kind ≡ kinds.COUNTS) ⊎ (kind ≡ kinds.BYE)
 
 -- the kinds of requests of a version
 abbrev pub IsKind : ℕ → ℕ → Type 0

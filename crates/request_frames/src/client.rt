@@ -6,7 +6,6 @@ ghost use Rattle.request_frames.specs.Lists.{IsPartsLength, part_bytes};
 ghost use Rattle.request_frames.specs.Requests.{FitsFrame, IsAsked, asked, head_in, message_in, request_message};
 ghost use Rattle.request_frames.specs.Replies.{IsBadReply, IsReply, IsReplyKind, reply_message};
 
-use crate::commit_kind::COMMIT;
 use crate::read::{body_of, head_of, read_word};
 use crate::reply::{Part, Reply};
 use crate::request::{BadFrame, Request};
@@ -30,7 +29,7 @@ const GET_ITEM_REPLY: u8 = kind::GET_ITEM + kind::REPLY;
 
 const GET_NAME_REPLY: u8 = kind::GET_NAME + kind::REPLY;
 
-const COMMIT_REPLY: u8 = COMMIT + kind::REPLY;
+const COMMIT_REPLY: u8 = kind::COMMIT + kind::REPLY;
 
 const COUNTS_REPLY: u8 = kind::COUNTS + kind::REPLY;
 
@@ -58,7 +57,7 @@ pub fn write_request(head: Head, r: &Request, out: &mut Vec<u8>) -> Result<(), A
         Request::GetType(index) => append(head, kind::GET_TYPE, &word(index), out),
         Request::GetItem(index) => append(head, kind::GET_ITEM, &word(index), out),
         Request::GetName(offset) => append(head, kind::GET_NAME, &word(offset), out),
-        Request::Commit => append(head, COMMIT, &[], out),
+        Request::Commit => append(head, kind::COMMIT, &[], out),
         Request::Counts => append(head, kind::COUNTS, &[], out),
         Request::Bye => append(head, kind::BYE, &[], out),
         Request::AddTypes(list) => append(head, kind::ADD_TYPES, list, out),

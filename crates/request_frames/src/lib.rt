@@ -3,7 +3,6 @@
 #![tactic(auto)]
 
 mod client;
-mod commit_kind;
 mod desk;
 mod laws;
 mod list;
@@ -17,7 +16,6 @@ mod tests;
 mod write;
 
 pub use crate::client::{read_reply, write_request};
-pub use crate::commit_kind::COMMIT;
 pub use crate::desk::Desk;
 pub use crate::laws::{one_list_of_records, one_request_a_frame};
 pub use crate::list::{next_part, next_record};

@@ -3,7 +3,6 @@ ghost use Rattle.srv_edge.specs.Name.{IsName};
 ghost use Rattle.srv_edge.specs.Frames.{IsHead, IsVersion, frame_bytes, half_bytes, tag_size, word_bytes};
 ghost use Rattle.request_frames.specs.Requests.{IsAsked, IsBadBody, IsKind, add_name, asked, frame_in, head_in, message_in, request_message};
 
-use crate::commit_kind::COMMIT;
 use crate::list::read_list;
 use crate::request::{BadFrame, Request};
 use srv_edge::limit::NAME_BYTES;
@@ -65,10 +64,10 @@ pub fn read_request<'a>(version: u8, frame: &'a [u8]) -> Result<Request<'a>, Bad
         kind::GET_TYPE => Ok(Request::GetType(read_word(body)?)),
         kind::GET_ITEM => Ok(Request::GetItem(read_word(body)?)),
         kind::GET_NAME => Ok(Request::GetName(read_word(body)?)),
-        COMMIT if body.is_empty() => Ok(Request::Commit),
+        kind::COMMIT if body.is_empty() => Ok(Request::Commit),
         kind::COUNTS if body.is_empty() => Ok(Request::Counts),
         kind::BYE if body.is_empty() => Ok(Request::Bye),
-        COMMIT | kind::COUNTS | kind::BYE => Err(BadFrame::Body),
+        kind::COMMIT | kind::COUNTS | kind::BYE => Err(BadFrame::Body),
         kind::ADD_TYPES if version == 2 => Ok(Request::AddTypes(read_list(body)?)),
         kind::ADD_ITEMS if version == 2 => Ok(Request::AddItems(read_list(body)?)),
         _ => Err(BadFrame::Kind),

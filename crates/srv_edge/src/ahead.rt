@@ -5,7 +5,7 @@ use std::io::Read;
 use std::marker::Model;
 
 /// How many bytes are read ahead at the most.
-const AHEAD_BYTES: usize = 4_096;
+const AHEAD_BYTES: usize = 16_384;
 
 /// Bytes that were read from a stream and not asked for yet.
 #[derive(Drop)]
@@ -22,7 +22,7 @@ impl Model for Ahead {
 
     ghost view = { λ a. drop a.from (take a.to a.bytes) };
 
-    ghost invariant = { λ a. (a.from ≤ a.to) × (a.to ≤ 4096) };
+    ghost invariant = { λ a. (a.from ≤ a.to) × (a.to ≤ 16384) };
 }
 
 impl Ahead {
@@ -58,7 +58,7 @@ impl Ahead {
         Ok(self.give(into))
     }
 
-    fn is_empty(&self) -> bool
+    pub fn is_empty(&self) -> bool
         ensures { IsTrue result ↔ (self.now ≡ []) }
     {
         self.from == self.to

@@ -14,6 +14,8 @@ pub const GET_ITEM: u8 = 6;
 
 pub const GET_NAME: u8 = 7;
 
+pub const COMMIT: u8 = 8;
+
 pub const COUNTS: u8 = 9;
 
 pub const BYE: u8 = 10;

@@ -13,6 +13,7 @@ mod faults;
 mod file;
 mod give;
 mod head;
+mod held;
 pub mod kind;
 mod laws;
 pub mod limit;

@@ -1,6 +1,7 @@
 ghost use Rattle.std.specs.Prelude.{◌≤◌, ◌<◌, ◌^◌};
 
 use crate::ahead::Ahead;
+use crate::held::Held;
 use crate::{
     Accepted, CallKind, Device, Door, FileDevice, Link, MemDevice, SessionEnd, Sink, Source,
     StillDevice, UnixDoor,
@@ -342,6 +343,51 @@ fn bytes_are_read_ahead(rt: HostRuntime) {
     }
 }
 
+// A stream that counts its writes and takes all.
+#[derive(Drop)]
+struct Counted {
+    writes: u32,
+    bytes: usize,
+}
+
+impl Write for Counted {
+    fn write(&mut self, buf: &[u8]) -> io::Result<usize> {
+        self.writes = self.writes.saturating_add(1);
+        self.bytes = self.bytes.saturating_add(buf.len());
+        Ok(buf.len())
+    }
+
+    fn flush(&mut self) -> io::Result<()> {
+        Ok(())
+    }
+}
+
+// Bytes are held up to the limit, and go out together.
+#[test]
+fn bytes_are_held(rt: HostRuntime) {
+    let mut stream = Counted {
+        writes: 0,
+        bytes: 0,
+    };
+    let mut held = Held::new();
+    let zeros = [0; 16_385];
+    let table: [(usize, u32, usize); 5] = [
+        (16_000, 0, 0),
+        (384, 0, 0),
+        (1, 1, 16_384),
+        (16_384, 2, 16_385),
+        (16_385, 4, 49_154),
+    ];
+    for (n, writes, bytes) in table {
+        assert!(rt; n <= zeros.len());
+        assert_eq!(rt; held.put(&mut stream, &zeros[..n]).ok(), Some(n));
+        assert_eq!(rt; (stream.writes, stream.bytes), (writes, bytes));
+    }
+    assert_eq!(rt; held.put(&mut stream, b"abc").ok(), Some(3));
+    assert!(rt; held.write_out(&mut stream).is_ok() && held.is_empty());
+    assert_eq!(rt; (stream.writes, stream.bytes), (5, 49_157));
+}
+
 // Serves two clients. One has the end of its stream before its link is given back, and one is gone
 // before it has its reply, which is a write fault.
 fn serve_two<R: Abort + Net>(
@@ -363,10 +409,11 @@ fn serve_two<R: Abort + Net>(
     };
     let mut into = [0; 8];
     assert_eq!(rt; one.take(&mut into[..3]).ok(), Some(3));
+    assert_eq!(rt; one.give(b"re").ok(), Some(2));
     assert_eq!(rt; one.take(&mut into[3..]).ok(), Some(2));
     assert_eq!(rt; two.take(&mut into[5..]).ok(), Some(1));
     assert_eq!(rt; into, *b"abcdex\0\0");
-    assert_eq!(rt; one.give(b"reply").ok(), Some(5));
+    assert_eq!(rt; one.give(b"ply").ok(), Some(3));
     one.shutdown();
     let mut got = Vec::new(alloc);
     first.read_to_end(&mut got)?;

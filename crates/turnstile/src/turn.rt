@@ -57,6 +57,14 @@ impl<'a, V: Historied> Turn<'a, V> {
         &mut self.value
     }
 
+    /// The number of the pass whose turn it is.
+    pub fn number(&self) -> u8
+        ensures { result ≡ (pass_of self.now).number }
+    {
+        let pass = &*self.pass;
+        pass.number
+    }
+
     /// Makes the value's newest entry a part of the history, as a call of this pass.
     pub fn file(&mut self)
         requires open { IsOpen self.old }

@@ -8,7 +8,7 @@ use Rattle.client_session.specs.Sharing.{AddsEachBy}
 use Rattle.client_session.specs.Tables.{kind_of_list, part_of}
 use Rattle.client_session.proofs.Listing.{each_more_by}
 use Rattle.client_session.proofs.Lists.{length-part}
-use Rattle.client_session.proofs.by_hub.add_list.Goals as goal
+use Rattle.client_session.proofs.listed.add_each.Goals as goal
 
 -- the reply with these parts
 abbrev reply_with : Head → ℕ → List ℕ → Frame
