@@ -1,15 +1,13 @@
 //! A server through which the compilers of one build write type records and names.
 #![tactic(auto)]
 
-mod commands;
-mod run;
-mod server;
-mod status;
+#[cfg(test)]
+mod tests;
 
-use crate::run::run;
-use crate::server::run_server;
-use crate::status::Status;
-pub use command_words::{Plan, Usage, Word, plan_of};
+use build_server::run_server;
+use command_words::{Plan, Usage, Word, plan_of};
+use file_commands::run;
+use program_status::Status;
 use srv_edge::{FileDevice, StdIn, StdOut, UnixDoor};
 use std::alloc::Global;
 use std::fs::{File, Files, OpenOptions, TryLockError};

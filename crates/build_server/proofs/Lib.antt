@@ -1,0 +1,4 @@
+mod Passes
+mod Leaving
+mod Causes
+mod Sending

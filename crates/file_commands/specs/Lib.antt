@@ -1,0 +1,5 @@
+pub mod Run
+pub mod Session
+pub mod Printed
+pub mod Making
+pub mod Drawn
