@@ -3,6 +3,7 @@ use Rattle.std.specs.Prelude.{◌≡◌, ◌⊎◌, ◌≤◌, ◌<◌, ◌+◌,
 use Rattle.leaf_grammar.specs.declared.grammar.Space.TheVariants as leaf
 use Rattle.leaf_grammar.specs.Leaf.{leaf_of}
 use Rattle.srv_edge.specs.Name.{IsName}
+use Rattle.type_hash.specs.Record.{record_hash}
 use Rattle.srv_edge.specs.declared.space.TheConstants as space
 use Rattle.srv_edge.specs.declared.failed.Refusal.{Refusal}
 use Rattle.srv_edge.specs.declared.failed.Refusal.TheVariants as refusal
@@ -41,6 +42,12 @@ abbrev pub IsAddable : TableKind → List ℕ → Type 0
 IsAddable Types bytes = IsOk (leaf_of leaf.Types bytes)
 IsAddable Items bytes = IsOk (leaf_of leaf.Items bytes)
 IsAddable Names bytes = IsName bytes
+
+-- the number is the hash by which a table of records finds these bytes; names are not found by it
+abbrev pub IsHashFor : TableKind → List ℕ → ℕ → Type 0
+IsHashFor Types bytes hash = hash ≡ record_hash bytes
+IsHashFor Items bytes hash = hash ≡ record_hash bytes
+IsHashFor Names bytes hash = Unit {0}
 
 -- The deed of an add of so many bytes that was answered so. What the bytes alone refuse, and what wants memory, has none.
 abbrev pub deed_of_add : TableKind → ℕ → Result ℕ Refusal → Option Deed

@@ -2,7 +2,7 @@ ghost use Rattle.std.specs.Prelude.{◌≡◌, ◌<◌, ◌^◌, ◌⊎◌, leng
 ghost use Rattle.call_journal.specs.Words.{IsDeed};
 ghost use Rattle.core_model.specs.Entries.{limit_of_number, table_of_space};
 ghost use Rattle.core_model.specs.Law.{add_to};
-ghost use Rattle.hub.specs.Calls.{Answers, IsAddable, IsUnfiled, deed_of_add};
+ghost use Rattle.hub.specs.Calls.{Answers, IsAddable, IsHashFor, IsUnfiled, deed_of_add};
 ghost use Rattle.table_model.specs.Calls.{answer, index_answer, tables_after};
 ghost use Rattle.type_store.specs.Views.{tables_in};
 
@@ -11,7 +11,7 @@ use crate::state::HubState;
 use call_journal::{Deed, Limit, TableKind, word_of};
 use leaf_grammar::Space;
 use srv_edge::{Device, Refusal, limit};
-use table_model::{add_name, add_record};
+use table_model::{add_leaf, add_name};
 use type_store::Tables;
 
 impl<D: Device> HubState<D> {
@@ -21,8 +21,10 @@ impl<D: Device> HubState<D> {
         caller: u8,
         kind: TableKind,
         bytes: &[u8],
+        hash: u32,
     ) -> Result<Result<u32, Refusal>, Refusal>
         requires judged { IsAddable kind bytes.now }
+        requires hash { IsHashFor kind bytes.now hash }
         requires short { length bytes.now < 2 ^ 32 }
         ensures filed { IfOk result (λ reply. Answers self.old.story self.new.story caller
             (add_to kind bytes.now) (index_answer reply)) }
@@ -31,7 +33,7 @@ impl<D: Device> HubState<D> {
     {
         let open = u32::from(self.file.is_none());
         make_room(&mut self.journal, &self.limits, 1 + open)?;
-        let reply = add_to(&mut self.tables, kind, bytes);
+        let reply = add_to(&mut self.tables, kind, bytes, hash);
         match deed_of_add(kind, bytes.len() as u32, reply) {
             Some(deed) => {
                 self.journal.push(word_of(caller, deed));
@@ -42,9 +44,15 @@ impl<D: Device> HubState<D> {
     }
 }
 
-// Adds what was judged to its table.
-fn add_to(tables: &mut Tables, kind: TableKind, bytes: &[u8]) -> Result<u32, Refusal>
-    requires { IsAddable kind bytes.now }
+// Adds what was judged and hashed to its table.
+fn add_to(
+    tables: &mut Tables,
+    kind: TableKind,
+    bytes: &[u8],
+    hash: u32,
+) -> Result<u32, Refusal>
+    requires judged { IsAddable kind bytes.now }
+    requires hash { IsHashFor kind bytes.now hash }
     ensures { ((index_answer result ≡ answer (tables_in tables.old) (add_to kind bytes.now))
         × (tables_in tables.new ≡ tables_after (tables_in tables.old) (add_to kind bytes.now)))
         ⊎ ((result ≡ Err Refusal.OutOfMemory) × (tables.new ≡ tables.old)) }
@@ -52,8 +60,8 @@ fn add_to(tables: &mut Tables, kind: TableKind, bytes: &[u8]) -> Result<u32, Ref
     let types = tables.types.len();
     let items = tables.items.len();
     match kind {
-        TableKind::Types => add_record(Space::Types, &mut tables.types, types, items, bytes),
-        TableKind::Items => add_record(Space::Items, &mut tables.items, types, items, bytes),
+        TableKind::Types => add_leaf(Space::Types, &mut tables.types, types, items, bytes, hash),
+        TableKind::Items => add_leaf(Space::Items, &mut tables.items, types, items, bytes, hash),
         TableKind::Names => add_name(&mut tables.names, bytes),
     }
 }

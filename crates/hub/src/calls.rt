@@ -1,7 +1,7 @@
 ghost use Rattle.std.specs.Prelude.{◌≡◌, ◌⊎◌, ◌≤◌, ◌+◌, Ok, length, IfOk, IfErr, IsOkAnd, IsErrAnd};
 ghost use Rattle.core_model.specs.History.{IsLegal};
 ghost use Rattle.core_model.specs.Law.{add_to};
-ghost use Rattle.hub.specs.Calls.{Gives, IsAddable, answer_of_get, get_of};
+ghost use Rattle.hub.specs.Calls.{Gives, IsAddable, IsHashFor, answer_of_get, get_of};
 ghost use Rattle.hub.specs.Kept.{IsOwnOpen};
 ghost use Rattle.hub.specs.Passes.{Commits, IsAnswered, IsBegunBy, IsEndedBy, IsMalformed, IsNotBegun, IsRefused, IsRefusedUnderWay};
 ghost use Rattle.leaf_grammar.specs.Leaf.{leaf_of};
@@ -21,7 +21,11 @@ use call_journal::TableKind;
 use leaf_grammar::{Space, check};
 use srv_edge::{Device, Piece, Refusal};
 use std::sync::Wait;
+use type_hash::of_record;
 use type_store::Counts;
+
+// What an add of a name brings in place of a hash: names are found by one of their own.
+const NO_HASH: u32 = 0;
 
 impl<D: Device> Hub<D> {
     /// Adds a type. What is no leaf is refused without a turn.
@@ -46,7 +50,7 @@ impl<D: Device> Hub<D> {
                 what: wrong.what,
             });
         }
-        self.add(rt, pass, TableKind::Types, bytes)
+        self.add(rt, pass, TableKind::Types, bytes, of_record(bytes))
     }
 
     /// Adds an item. What is no leaf is refused without a turn.
@@ -71,7 +75,7 @@ impl<D: Device> Hub<D> {
                 what: wrong.what,
             });
         }
-        self.add(rt, pass, TableKind::Items, bytes)
+        self.add(rt, pass, TableKind::Items, bytes, of_record(bytes))
     }
 
     /// Adds a name.
@@ -89,7 +93,7 @@ impl<D: Device> Hub<D> {
         ensures sound { IsSound IsLegal pass.new }
         ensures idle { IsIdleAt self.now pass.new }
     {
-        self.add(rt, pass, TableKind::Names, name)
+        self.add(rt, pass, TableKind::Names, name, NO_HASH)
     }
 
     /// Puts the type at an index behind what the piece holds.
@@ -177,16 +181,18 @@ impl<D: Device> Hub<D> {
         }
     }
 
-    // One turn, in which what was judged is added to a table.
+    // One turn, in which what was judged and hashed is added to a table.
     fn add(
         &self,
         rt: &impl Wait,
         pass: &mut HubPass<D>,
         kind: TableKind,
         bytes: &[u8],
+        hash: u32,
     ) -> Result<u32, Refusal>
         requires idle { IsIdleAt self.now pass.old }
         requires judged { IsAddable kind bytes.now }
+        requires hash { IsHashFor kind bytes.now hash }
         ensures reply { IsAnswered pass.old pass.new (add_to kind bytes.now) (index_answer result)
             ⊎ IsRefused pass.old pass.new result }
         ensures same { IsSamePass pass.old pass.new }
@@ -194,7 +200,7 @@ impl<D: Device> Hub<D> {
         ensures idle { IsIdleAt self.now pass.new }
     {
         let mut turn = self.take_turn(rt, pass);
-        let reply = add_judged(&mut turn, kind, bytes);
+        let reply = add_judged(&mut turn, kind, bytes, hash);
         turn.leave();
         reply
     }

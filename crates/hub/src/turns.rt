@@ -1,6 +1,6 @@
 ghost use Rattle.std.specs.Prelude.{◌≡◌, ◌⊎◌, IsOk};
 ghost use Rattle.core_model.specs.Law.{add_to};
-ghost use Rattle.hub.specs.Calls.{IsAddable};
+ghost use Rattle.hub.specs.Calls.{IsAddable, IsHashFor};
 ghost use Rattle.hub.specs.Passes.{IsAnswered, IsRefused};
 ghost use Rattle.hub.specs.Turns.{IsAhead, IsInTurn, pass_in, table_of};
 ghost use Rattle.leaf_grammar.specs.Leaf.{leaf_of};
@@ -15,6 +15,7 @@ use leaf_grammar::Space;
 use srv_edge::{Device, Refusal};
 use std::sync::Wait;
 use turnstile::Turn;
+use type_hash::of_record;
 
 /// A turn at a hub. It has to be left.
 pub type HubTurn<'a, D> = Turn<'a, HubValue<D>>;
@@ -46,17 +47,19 @@ pub fn add_leaf<D: Device>(
         ⊎ IsRefused (pass_in turn.old) (pass_in turn.new) result }
     ensures same { IsSamePass (pass_in turn.old) (pass_in turn.new) }
 {
-    add_judged(turn, table_for(space), bytes)
+    add_judged(turn, table_for(space), bytes, of_record(bytes))
 }
 
-// Adds what was judged to a table.
+// Adds what was judged and hashed to a table.
 pub(crate) fn add_judged<D: Device>(
     turn: &mut HubTurn<D>,
     kind: TableKind,
     bytes: &[u8],
+    hash: u32,
 ) -> Result<u32, Refusal>
     requires turn { IsInTurn turn.old }
     requires judged { IsAddable kind bytes.now }
+    requires hash { IsHashFor kind bytes.now hash }
     ensures turn { IsInTurn turn.new × IsSameTurn turn.old turn.new }
     ensures reply { IsAnswered (pass_in turn.old) (pass_in turn.new)
         (add_to kind bytes.now) (index_answer result)
@@ -64,7 +67,7 @@ pub(crate) fn add_judged<D: Device>(
     ensures same { IsSamePass (pass_in turn.old) (pass_in turn.new) }
 {
     let caller = turn.number();
-    match turn.value().state.add(caller, kind, bytes) {
+    match turn.value().state.add(caller, kind, bytes, hash) {
         Ok(reply) => {
             turn.file();
             reply

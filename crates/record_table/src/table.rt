@@ -97,6 +97,22 @@ impl RecordTable {
         ensures cost { steps.new ≤ steps.old + in_bucket self.old.records bytes.now }
     {
         let hash = of_record(bytes);
+        self.add_hashed(bytes, hash, steps)
+    }
+
+    /// The same as `add`, with a hash that was computed before.
+    pub fn add_hashed<L: Ledger>(
+        &mut self,
+        bytes: &[u8],
+        hash: u32,
+        steps: &mut Steps<L>,
+    ) -> Result<u32, AddFault>
+        requires record { IsRecord bytes.now }
+        requires hash { hash ≡ record_hash bytes.now }
+        requires steps { steps.old < 2 ^ 62 }
+        ensures added { Adds self.old bytes.now result self.new }
+        ensures cost { steps.new ≤ steps.old + in_bucket self.old.records bytes.now }
+    {
         let place = find_in(&self.records, &self.chains, hash, bytes, steps);
         if let Some(index) = index_of_place(place) {
             return Ok(index);

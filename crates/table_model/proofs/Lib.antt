@@ -3,3 +3,4 @@ pub mod Searching
 pub mod Records
 pub mod Strings
 pub mod NoFault
+pub mod Leaves

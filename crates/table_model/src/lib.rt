@@ -9,7 +9,7 @@ mod search;
 #[cfg(test)]
 mod tests;
 
-pub use crate::add::{add_name, add_record};
+pub use crate::add::{add_leaf, add_name, add_record};
 pub use crate::call::{Call, Outcome};
 pub use crate::plain::PlainTable;
 pub use crate::search::{place_of, place_of_name};

@@ -2,7 +2,7 @@ use Rattle.std.proofs.Common.{◌≡◌, length, ap, sym, ◌∙◌, arith}
 use Rattle.srv_edge.specs.Records.{joined}
 use Rattle.record_table.specs.Table.{HasRoomFor, Table, bytes_in}
 use Rattle.record_table.proofs.Kept.{kept_still}
-use Rattle.record_table.proofs.table.RecordTable.add.Goals as goal
+use Rattle.record_table.proofs.table.RecordTable.add_hashed.Goals as goal
 
 pub invariant_of-self : goal.invariant_of-self
 invariant_of-self g c =
