@@ -1,5 +1,5 @@
--- Each step of a turn keeps the rule: draw, look, front, take, file, leave, and the setting of a bell.
-use Rattle.std.proofs.Common.{◌≡◌, ◌≢◌, ℕ, zero, suc, ◌+◌, ◌-◌, ◌%◌, ◌^◌, ◌<◌, ◌≤◌, eqb, eq-eqb, List, [], ◌∷◌, ◌++◌, length, slice_index, slice_set, set, sym, refl, ap, subst, ◌∙◌, inl, inr, arith, length-append}
+-- Each step of a turn keeps the rule: draw, look, front, take, file, leave, and the setting of the bell.
+use Rattle.std.proofs.Common.{◌≡◌, ◌≢◌, ℕ, zero, suc, ◌+◌, ◌-◌, ◌%◌, ◌^◌, ◌<◌, ◌≤◌, eqb, eq-eqb, ne_eqb, List, [], ◌∷◌, ◌++◌, length, slice_index, slice_set, set, sym, refl, ap, subst, ◌∙◌, inl, inr, arith, length-append}
 use mathlib.Core.Option.{Option, none, some}
 use lib.ListN.{get_elem?}
 use native.Mathlib.Decide.{ℕ_discrete}
@@ -124,31 +124,41 @@ module _ {V : Type 0} (basis : V → Basis) (entries : V → List Entry) (law : 
   others : (s : State (Place V) View) (o : Orderly basis entries law start s) (id : ℕ) (w : View) → Fits law start o.log o.serving o.made o.ended w → (j : ℕ) (u : View) → get_elem? (set s.views id w) j ≡ some u → Fits law start o.log o.serving o.made o.ended u
   others s o id w new = each_set (Fits law start o.log o.serving o.made o.ended) s.views id w new (λ j u ne at. o.each j u at)
 
-  pub draws : (slots id n : ℕ) (me : Me (Place V) View) → me.0.role ≡ Caller n → me.0.stage ≡ Idle → Allows (Orderly basis entries law start) slots id me 0 (λ k. (k + 1) % 2 ^ 64) (Draws (step slots 0 1 0 none) me)
-  draws slots id n me role idle s o homes at bound =
-      let t : ℕ = o.serving + o.waiting in
-      let w : View = staged (Waiting t) me.0 in
-      let l : lives me.0.role ≡ 1 = ap lives role in
-      let next : ((o.serving + o.waiting) % 2 ^ 64 + 1) % 2 ^ 64 ≡ (o.serving + suc o.waiting) % 2 ^ 64 = mod_next t (2 ^ 64) ∙ ap (λ (k : ℕ). k % 2 ^ 64) (let h : t + 1 ≡ o.serving + suc o.waiting = omega arith in h) in (
-        w,
-        keeps,
-        tt,
-        kept s o id me.0 w at o.serving (suc o.waiting) o.bells _ _
-            (ap (λ (ws : List ℕ). slice_set ws 0 ((slice_index ws 0 + 1) % 2 ^ 64)) o.words ∙ ap (λ (k : ℕ). k ∷ o.serving % 2 ^ 64 ∷ length o.log ∷ o.bells) next)
-            refl
-            (others s o id w (fits_staged law start o.log o.serving o.waiting o.made o.ended s.views (Waiting t) me.0 (o.each id me.0 at) (omega arith) tt))
-            (line_longer law start o.log o.serving o.waiting o.made o.ended s.views o.line id me.0 at idle)
-            (shelf_moves o.log (total loaded s.views) _ s.homes (total_same loaded s.views id me.0 w at (sym (ap has_value idle))) o.shelved),
-        (t, ap (λ (ws : List ℕ). slice_index ws 0) o.words, refl),
-      )
-
-  -- nothing changes but, maybe, a bell
+  -- nothing changes but, maybe, the bell
   unchanged : (s : State (Place V) View) (o : Orderly basis entries law start s) (id : ℕ) (v : View) → get_elem? s.views id ≡ some v → (bells ws : List ℕ) → ws ≡ (o.serving + o.waiting) % 2 ^ 64 ∷ o.serving % 2 ^ 64 ∷ length o.log ∷ bells → Orderly basis entries law start (record { words = ws; homes = s.homes; views = set s.views id v })
   unchanged s o id v at bells ws words =
       kept s o id v v at o.serving o.waiting bells ws s.homes words refl
       (others s o id v (o.each id v at))
       (line_kept law start o.log o.serving o.waiting o.made o.ended s.views o.line id v v at refl (λ t. refl))
       (shelf_moves o.log (total loaded s.views) _ s.homes (total_same loaded s.views id v v at refl) o.shelved)
+
+  pub draws : (slots id n old new : ℕ) (me : Me (Place V) View) → me.0.role ≡ Caller n → me.0.stage ≡ Idle → new ≡ (old + 1) % 2 ^ 64 → Allows (Orderly basis entries law start) slots id me 0 (λ k. either (eqb k old) new k) (Draws (step slots 0 old new none) me)
+  draws slots id n old new me role idle one_more s o homes at bound =
+      let t : ℕ = o.serving + o.waiting in
+      let found : slice_index s.words 0 ≡ t % 2 ^ 64 = ap (λ (ws : List ℕ). slice_index ws 0) o.words in
+      let w : View = staged (Waiting t) me.0 in
+      let l : lives me.0.role ≡ 1 = ap lives role in
+      dite (ℕ_discrete (slice_index s.words 0) old)
+      (λ e.
+      let next : new ≡ (o.serving + suc o.waiting) % 2 ^ 64 = one_more ∙ ap (λ (k : ℕ). (k + 1) % 2 ^ 64) (sym e ∙ found) ∙ mod_next t (2 ^ 64) ∙ ap (λ (k : ℕ). k % 2 ^ 64) (let h : t + 1 ≡ o.serving + suc o.waiting = omega arith in h) in (
+        w,
+        keeps,
+        tt,
+        kept s o id me.0 w at o.serving (suc o.waiting) o.bells _ _
+            (ap (λ (b : _). slice_set s.words 0 (either b new (slice_index s.words 0))) (eq-eqb (slice_index s.words 0) old e) ∙ ap (λ (ws : List ℕ). slice_set ws 0 new) o.words ∙ ap (λ (k : ℕ). k ∷ o.serving % 2 ^ 64 ∷ length o.log ∷ o.bells) next)
+            refl
+            (others s o id w (fits_staged law start o.log o.serving o.waiting o.made o.ended s.views (Waiting t) me.0 (o.each id me.0 at) (omega arith) tt))
+            (line_longer law start o.log o.serving o.waiting o.made o.ended s.views o.line id me.0 at idle)
+            (shelf_moves o.log (total loaded s.views) _ s.homes (total_same loaded s.views id me.0 w at (sym (ap has_value idle))) o.shelved),
+        inl (e, t, found, refl),
+      ))
+      (λ ne. (
+        me.0,
+        keeps,
+        tt,
+        unchanged s o id me.0 at o.bells _ (ap (λ (b : _). slice_set s.words 0 (either b new (slice_index s.words 0))) (ne_eqb (slice_index s.words 0) old ne) ∙ ap (λ (ws : List ℕ). slice_set ws 0 (slice_index ws 0)) o.words),
+        inr (ne, refl),
+      ))
 
   pub rings : (slots id b new : ℕ) (me : Me (Place V) View) → 3 ≤ b → Allows (Orderly basis entries law start) slots id me b (λ _. new) (λ _. Rings (step slots b new 0 none) me new)
   rings slots id b new me far s o homes at bound =

@@ -1,5 +1,5 @@
 -- The rule of the turnstile: what holds of the table's words, its slot and all views between any two steps.
--- Word 0 is the next ticket, word 1 the ticket that is served, word 2 the number of entries filed. The others are bells, on which passes sleep: the rule says nothing of what they read.
+-- Word 0 is the next ticket, word 1 the ticket that is served, word 2 the number of entries filed. The last is the bell, on which passes sleep: the rule says nothing of what it reads.
 use Rattle.std.specs.Prelude.{◌≡◌, ◌≢◌, ℕ, zero, suc, ◌+◌, ◌%◌, ◌^◌, ◌<◌, ◌≤◌, List, [], ◌∷◌, length}
 use mathlib.Core.Option.{Option, none, some}
 use lib.ListN.{get_elem?}

@@ -8,9 +8,9 @@ use Rattle.turnstile.specs.declared.view.Role.TheVariants.{Caller}
 use Rattle.turnstile.specs.declared.view.Stage.TheVariants.{Waiting}
 use Rattle.turnstile.specs.declared.view.View.{View}
 
--- the table has the three words and 256 bells, and one slot
+-- the table has three words, a bell and one slot
 abbrev pub IsGate : TableId → Type 0
-IsGate z = (z.words ≡ 259) × (z.slots ≡ 1)
+IsGate z = (z.words ≡ 4) × (z.slots ≡ 1)
 
 module _ {V : Type 0} where
   -- a seat at this table

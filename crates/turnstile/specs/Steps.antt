@@ -30,8 +30,9 @@ pub record Sights (law : Basis → List Entry → Type 0) (v : View) (found : �
   pub retired : v.role ≡ Caller 0 → (k : ℕ) (e : Ended) → get_elem? v.ended k ≡ some e → e.calls ≡ calls_by e.number log
 
 module _ {V : Type 0} where
+  -- a ticket is drawn where the number found is the one that was expected
   abbrev pub Draws : Step (Place V) → Me (Place V) View → ℕ → Me (Place V) View → Type 0
-  Draws step me found after = (t : ℕ) × (found ≡ t % 2 ^ 64) × (after ≡ (staged (Waiting t) me.0, me.1))
+  Draws step me found after = ((found ≡ step.first) × (t : ℕ) × (found ≡ t % 2 ^ 64) × (after ≡ (staged (Waiting t) me.0, me.1))) ⊎ ((found ≢ step.first) × (after ≡ me))
 
   abbrev pub Looks : Step (Place V) → Me (Place V) View → ℕ → Me (Place V) View → Type 0
   Looks step me found after = (t : ℕ) → me.0.stage ≡ Waiting t

@@ -1,4 +1,4 @@
-//! One history for all threads, over any value: threads take turns on the value by a ticket, and
+//! One history for all threads, over any value: threads take turns on the value, and
 //! each pass knows a beginning of the history and its own calls in it.
 #![tactic(auto)]
 

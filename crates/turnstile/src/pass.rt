@@ -14,7 +14,7 @@ use std::alloc::{AllocFailed, Global};
 use std::marker::Model;
 use std::snapshot::Snapshot;
 
-/// A value and the line of those who want a turn at it. It is shared by reference, and has to be
+/// A value on which passes take turns. It is shared by reference, and has to be
 /// closed in the end.
 pub struct Turnstile<V: Historied> {
     pub(crate) table: Walls<V>,

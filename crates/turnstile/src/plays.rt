@@ -6,7 +6,7 @@ use std::alloc::Global;
 use std::marker::PhantomData;
 use std::snapshot::Snapshot;
 
-/// Threads stand in line for the value. The key shows the value as it was at first.
+/// Threads take turns on the value. The key shows the value as it was at first.
 pub struct Queue<V> {
     of: PhantomData<V>,
 }
@@ -26,7 +26,7 @@ pub type Walls<V> = Table<Place<V>, View, Snapshot<V>, Queue<V>, Global>;
 
 pub type Chair<V> = Seat<Place<V>, View>;
 
-/// A pass draws a ticket.
+/// A pass draws a ticket, if no ticket was out as far as it saw.
 pub struct Draw;
 
 impl<V> Play<Place<V>, View> for Draw {
@@ -44,7 +44,7 @@ impl<V> Play<Place<V>, View> for Look {
     ghost then = { Looks };
 }
 
-/// A pass sets a bell, its own or that of the pass that is served next.
+/// A pass sets the bell, before it sleeps or to wake another.
 pub struct Ring;
 
 impl<V> Play<Place<V>, View> for Ring {

@@ -28,7 +28,7 @@ pub fn sight<V: Historied>(gate: &Gate<V>, chair: &mut Chair<V>) -> u32
     gate.load::<Front>(chair, FRONT) as u32
 }
 
-/// Waits in line and takes the value.
+/// Waits for a turn and takes the value.
 pub fn claim<V: Historied>(rt: &impl Wait, gate: &Gate<V>, chair: &mut Chair<V>) -> V
     requires table { IsAt gate.now.table_id chair.old }
     requires idle { (chair.old.me.0.stage ≡ Idle) × (chair.old.me.1 ≡ []) }
@@ -64,7 +64,7 @@ pub fn announce<V: Historied>(gate: &Gate<V>, chair: &mut Chair<V>, value: &V)
     said.let_go();
 }
 
-/// Gives the value back and calls the next in line.
+/// Gives the value back and wakes a pass that sleeps.
 pub fn hand_back<V: Historied>(gate: &Gate<V>, chair: &mut Chair<V>, value: V)
     requires table { IsAt gate.now.table_id chair.old }
     requires loaded { ((t : ℕ) × (chair.old.me.0.stage ≡ Loaded t))
@@ -76,6 +76,6 @@ pub fn hand_back<V: Historied>(gate: &Gate<V>, chair: &mut Chair<V>, value: V)
     ensures idle { chair.new.me ≡ (staged Idle chair.old.me.0, []) }
 {
     gate.exchange(chair, 0, Place::Full(value)).let_go();
-    let served = gate.fetch_add::<Leave>(chair, SERVING, 1);
-    call_next(gate, chair, served.wrapping_add(1));
+    gate.fetch_add::<Leave>(chair, SERVING, 1);
+    call_next(gate, chair);
 }

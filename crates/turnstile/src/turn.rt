@@ -86,7 +86,7 @@ impl<'a, V: Historied> Turn<'a, V> {
         announce(&gate.table.shared, &mut pass.seat, &self.value);
     }
 
-    /// Ends the turn and wakes the next pass in line, if it sleeps.
+    /// Ends the turn and wakes one of the passes that sleep, if any does.
     pub fn leave(self)
         requires open { IsOpen self }
         requires basis { V.basis (value_of self) ≡ (pass_of self).basis }

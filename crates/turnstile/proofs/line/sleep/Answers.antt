@@ -3,7 +3,7 @@ use Rattle.turnstile.proofs.Turns.{rings}
 use Rattle.turnstile.proofs.line.sleep.Goals as goal
 
 pub store-requires : goal.store-requires
-store-requires g c = (c.requires.table.0, omega arith, rings g.V.Historied.basis g.V.Historied.entries g.V.Historied.law _ _ _ _ _ _ c.bell_of-bell.ensures.0)
+store-requires g c = (c.requires.table.0, omega arith, rings g.V.Historied.basis g.V.Historied.entries g.V.Historied.law _ _ _ _ _ _ (omega arith))
 
-pub store-requires-2 : goal.store-requires-2
-store-requires-2 g c = (c.store.ensures.0 ∙ c.requires.table.0, omega arith, rings g.V.Historied.basis g.V.Historied.entries g.V.Historied.law _ _ _ _ _ _ c.bell_of-bell.ensures.0)
+pub store-requires-then-peek : goal.store-requires-then-peek
+store-requires-then-peek g c = (c.store.ensures.0 ∙ c.requires.table.0, omega arith, rings g.V.Historied.basis g.V.Historied.entries g.V.Historied.law _ _ _ _ _ _ (omega arith))

@@ -4,8 +4,8 @@ use Rattle.turnstile.specs.declared.view.Place.TheVariants.{Full}
 use Rattle.turnstile.proofs.Turns.{leaves}
 use Rattle.turnstile.proofs.steps.hand_back.Goals as goal
 
-pub fetch_add-served-requires : goal.fetch_add-served-requires
-fetch_add-served-requires g c = (
+pub fetch_add-requires : goal.fetch_add-requires
+fetch_add-requires g c = (
   c.exchange.ensures.0 ∙ c.requires.table.0,
   omega arith,
   leaves g.V.Historied.basis g.V.Historied.entries g.V.Historied.law _ _ _ _ _ _ c.args.value
