@@ -27,11 +27,14 @@ pub struct Tag<'a> {
 pub fn tag_of(bytes: &[u8]) -> Option<Tag<'_>>
     ensures { GivesTag result (tag_of_record bytes.now) }
 {
+    if bytes.len() < 8 || !is_tag(record_kind(bytes)) {
+        return None;
+    }
     let mut texts = Texts {
         first: None,
         second: None,
     };
-    if walk_forms(Space::Types, bytes, &mut texts).is_ok() && is_tag(record_kind(bytes)) {
+    if walk_forms(Space::Types, bytes, &mut texts).is_ok() {
         Some(read_tag(bytes, texts))
     } else {
         None

@@ -3,6 +3,7 @@
 
 mod crc;
 mod record;
+mod rows;
 mod strings;
 #[cfg(test)]
 mod tests;

@@ -42,7 +42,7 @@ fn name_of(tag: Tag<'_>) -> Option<&[u8]>
 fn of_untagged(bytes: &[u8]) -> u32
     ensures { result ≡ untagged_hash bytes.now }
 {
-    if check(Space::Items, bytes).is_ok() && is_line(record_kind(bytes)) {
+    if bytes.len() >= 8 && is_line(record_kind(bytes)) && check(Space::Items, bytes).is_ok() {
         of_line(bytes)
     } else {
         buffer(bytes)

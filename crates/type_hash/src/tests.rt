@@ -19,6 +19,7 @@ fn texts(rt: HostRuntime) {
         assert_eq!(rt; buffer(bytes), *check, "{bytes:?}");
     }
     assert_eq!(rt; buffer(b"\x01"), 0x7707_3096);
+    assert_eq!(rt; buffer(b"123456789"), 0x2DFD_2D88);
 }
 
 // Records and their hashes.

@@ -1,6 +1,12 @@
-use Rattle.std.proofs.Common.{◌≡◌, fold, take}
+use Rattle.std.proofs.Common.{◌≡◌, ◌≤◌, ◌-◌, length, drop, fold}
 use Rattle.type_hash.specs.Hash.{crc_byte}
 use Rattle.type_hash.proofs.crc.buffer.Given as goal
 
-abbrev pub invariant-loop-byte : goal.invariant-loop-byte
-invariant-loop-byte l = l.crc ≡ fold crc_byte 0 (take l.byte-index l.bytes)
+abbrev pub invariant-loop-at : goal.invariant-loop-at
+invariant-loop-at l = record {
+  inside : l.at ≤ length l.bytes;
+  rest : fold crc_byte l.crc (drop l.at l.bytes) ≡ fold crc_byte 0 l.bytes;
+}
+
+abbrev pub decreases-loop-at : goal.decreases-loop-at
+decreases-loop-at l = length l.bytes - l.at
