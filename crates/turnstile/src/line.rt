@@ -54,7 +54,8 @@ pub fn stand<V: Historied>(rt: &impl Wait, gate: &Gate<V>, chair: &mut Chair<V>)
     unreachable!()
 }
 
-/// Draws the ticket that is served, if no ticket is out.
+/// Draws the ticket that is served, if no ticket is out. It looks before it tries, since a try takes
+/// the words from the one whose turn it is.
 fn draw<V: Historied>(gate: &Gate<V>, chair: &mut Chair<V>) -> Option<u64>
     requires table { IsAt gate.now.table_id chair.old }
     requires idle { (chair.old.me.0.stage ≡ Idle) × (chair.old.me.1 ≡ []) }
@@ -65,6 +66,9 @@ fn draw<V: Historied>(gate: &Gate<V>, chair: &mut Chair<V>) -> Option<u64>
     ensures same { IfNone result (chair.new.me ≡ chair.old.me) }
 {
     let served = gate.peek(SERVING);
+    if gate.peek(TICKET) != served {
+        return None;
+    }
     let next = served.wrapping_add(1);
     if gate.compare_exchange::<Draw>(chair, TICKET, served, next) == served {
         Some(served)
