@@ -8,6 +8,8 @@ mod changed_blocks_tests;
 #[cfg(test)]
 mod failing_tests;
 mod laws;
+#[cfg(test)]
+mod limits_tests;
 mod listed;
 mod replies;
 mod shared;

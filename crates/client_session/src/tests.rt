@@ -53,8 +53,8 @@ pub(crate) fn replies(
     served(alloc, &mut book, frames)
 }
 
-// The first line of this text whose frames are answered otherwise than it says.
-fn first_wrong<'a>(
+/// The first line of this text whose frames are answered otherwise than it says.
+pub(crate) fn first_wrong<'a>(
     alloc: Global,
     keys: RandomState,
     limits: Limits,
@@ -101,25 +101,5 @@ fn frames_by_their_replies(rt: HostRuntime) -> Result<(), Fail> {
     let keys = RandomState::new(&rt)?;
     let wrong = first_wrong(rt.alloc(), keys, Limits::STANDARD, ROWS)?;
     assert_eq!(rt; wrong, None);
-    Ok(())
-}
-
-// One record at most, 20 bytes of records, and 3 of names.
-#[test]
-fn small_limits(rt: HostRuntime) -> Result<(), Fail> {
-    let alloc = rt.alloc();
-    let keys = RandomState::new(&rt)?;
-    let mut one = Limits::STANDARD;
-    one.records = 1;
-    let row =
-        "0d000000020a000110740000000100f2f1 0d000000020a000110740000000100f1f1 0d000000020a000110740000000100f2f1 = 050000008200100000 0a000000ff060100000001000000 050000008200100000";
-    assert_eq!(rt; first_wrong(alloc, keys, one, row)?, None);
-    let mut few = Limits::STANDARD;
-    few.bytes = 20;
-    few.name_bytes = 3;
-    let rows = "\
-0d000000020a000110740000000100f2f1 0d000000020a000110740000000100f1f1 = 050000008200100000 0a000000ff060200000018000000
-020000000461 020000000462 020000000461 = 050000008401000000 0a000000ff060300000005000000 050000008401000000";
-    assert_eq!(rt; first_wrong(alloc, keys, few, rows)?, None);
     Ok(())
 }
