@@ -45,12 +45,7 @@ impl<D: Device> HubState<D> {
 }
 
 // Adds what was judged and hashed to its table.
-fn add_to(
-    tables: &mut Tables,
-    kind: TableKind,
-    bytes: &[u8],
-    hash: u32,
-) -> Result<u32, Refusal>
+fn add_to(tables: &mut Tables, kind: TableKind, bytes: &[u8], hash: u32) -> Result<u32, Refusal>
     requires judged { IsAddable kind bytes.now }
     requires hash { IsHashFor kind bytes.now hash }
     ensures { ((index_answer result ≡ answer (tables_in tables.old) (add_to kind bytes.now))
