@@ -62,7 +62,7 @@ fn commit(
     let mut edits = Vec::new(alloc);
     for (stream, size) in streams {
         let bytes = vec![in alloc; mark; *size as usize]?;
-        edits.push(Edit::new(*stream, 0, bytes, *size))?;
+        edits.push(Edit::new(*stream, 0, bytes, &[], *size))?;
     }
     if !may_plan(store.image(), &edits) {
         return Err("these edits may be planned".into());

@@ -38,7 +38,7 @@ fn is_edit(block_size: u32, directory: &Directory, edits: &[Edit], e: &Edit) -> 
     requires { IsBlockSize block_size }
     ensures { IsTrue result → IsEdit block_size directory.now edits.now e.now }
 {
-    let end = u64::from(e.at()) + e.bytes().len() as u64;
+    let end = u64::from(e.at()) + e.bytes_len() as u64;
     e.stream() >= 1
         && directory.size(e.stream()).is_some()
         && e.at() % block_size == 0

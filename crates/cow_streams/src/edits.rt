@@ -27,7 +27,7 @@ fn has_byte(e: &Edit, stream: u32, at: u64) -> bool
 {
     e.stream() == stream
         && u64::from(e.at()) <= at
-        && at < u64::from(e.at()) + e.bytes().len() as u64
+        && at < u64::from(e.at()) + e.bytes_len() as u64
 }
 
 /// The length after the edits of a stream that had this one.

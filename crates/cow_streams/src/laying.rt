@@ -10,7 +10,6 @@ ghost use Rattle.cow_streams.specs.Planned.{writes_to};
 
 use crate::edits::{edit_at, len_after};
 use crate::write::BlockWrite;
-use crate::writing::cut_block;
 use msf_blocks::{Edit, block_offset, blocks_of_size};
 use std::alloc::{AllocError, Global};
 use stream_directory::Stream;
@@ -181,5 +180,11 @@ fn piece_of(alloc: Global, block_size: u32, e: &Edit, k: u32) -> Result<Vec<u8>,
     ensures { IfOk result (λ piece. piece.items
         ≡ block_of block_size e.now.bytes (k - e.now.at / block_size)) }
 {
-    cut_block(alloc, block_size, e.bytes(), k - e.at() / block_size)
+    let mut piece = Vec::with_capacity(alloc, block_size as usize)?;
+    let start = (k - e.at() / block_size) as usize * block_size as usize;
+    let from = e.bytes_len().min(start);
+    let end = e.bytes_len().min(from + block_size as usize);
+    e.put_bytes(&mut piece, from, end)?;
+    piece.resize(block_size as usize, 0)?;
+    Ok(piece)
 }

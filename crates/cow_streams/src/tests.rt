@@ -35,7 +35,7 @@ fn edits_of(alloc: Global, parts: &[Part]) -> Result<Vec<Edit>, AllocError> {
     let mut edits = Vec::new(alloc);
     for (stream, at, count, len) in parts {
         let bytes = vec![in alloc; 7; *count]?;
-        edits.push(Edit::new(*stream, *at, bytes, *len))?;
+        edits.push(Edit::new(*stream, *at, bytes, &[], *len))?;
     }
     Ok(edits)
 }

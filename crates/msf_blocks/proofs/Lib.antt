@@ -4,3 +4,4 @@ pub mod Sizes
 pub mod Judging
 pub mod Passing
 pub mod SuperblockTexts
+pub mod Runs

@@ -114,10 +114,13 @@ fn bits(rt: HostRuntime) {
 
 #[test]
 fn edits(rt: HostRuntime) -> Result<(), Fail> {
-    let edit = Edit::new(2, 512, [7, 8].to_vec(rt.alloc())?, 514);
+    let edit = Edit::new(2, 512, [7, 8].to_vec(rt.alloc())?, &[9, 10, 11], 517);
     assert_eq!(rt; edit.stream(), 2);
     assert_eq!(rt; edit.at(), 512);
-    assert_eq!(rt; edit.bytes(), [7, 8].as_slice());
-    assert_eq!(rt; edit.len(), 514);
+    assert_eq!(rt; edit.bytes_len(), 5);
+    assert_eq!(rt; edit.len(), 517);
+    let mut bytes = [6].to_vec(rt.alloc())?;
+    edit.put_bytes(&mut bytes, 1, 4)?;
+    assert_eq!(rt; bytes.as_slice(), [6, 8, 9, 10].as_slice());
     Ok(())
 }

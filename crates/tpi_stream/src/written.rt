@@ -29,22 +29,26 @@ pub fn record_stream_first(
     first_of_both(alloc, &header, records.joined(), count as usize)
 }
 
-/// The stream from a place on, where the index offsets are at hand.
+/// The stream from a place on, in two runs, where the index offsets are at hand. The second is a part
+/// of the records' own bytes.
 #[tactic(auto, unfolding(crate::specs::Written::record_stream_text))]
-pub fn record_stream_from(
+pub fn record_stream_from<'a>(
     alloc: Global,
     kept: Kept,
-    records: &RecordList,
+    records: &'a RecordList,
     offsets: &[u8],
     at: u32,
-) -> Result<Vec<u8>, AllocError>
+) -> Result<(Vec<u8>, &'a [u8]), AllocError>
     requires few { length records.now ≤ 2 ^ 23 }
     requires offsets { offsets.now ≡ index_offsets records.now }
     requires inside { at ≤ HEADER_BYTES + length (joined records.now) }
-    ensures { IfOk result (λ text. text.items ≡ drop at (record_stream_text kept records.now)) }
+    ensures { IfOk result (λ runs. runs.0.items ++ runs.1.now
+        ≡ drop at (record_stream_text kept records.now)) }
 {
     let header = written_header(kept, records, offsets);
-    rest_of_both(alloc, &header, records.joined(), at as usize)
+    let front = at.min(HEADER_BYTES) as usize;
+    let rest = &records.joined()[at as usize - front..];
+    Ok((header[front..].to_vec(alloc)?, rest))
 }
 
 // The text of the header.
@@ -71,18 +75,5 @@ fn first_of_both(
     }
     let mut text = front.to_vec(alloc)?;
     text.extend_from_slice(&back[..back.len().min(count - front.len())])?;
-    Ok(text)
-}
-
-// The bytes of two such runs from a place on.
-fn rest_of_both(alloc: Global, front: &[u8], back: &[u8], at: usize) -> Result<Vec<u8>, AllocError>
-    requires { at ≤ length front.now + length back.now }
-    ensures { IfOk result (λ text. text.items ≡ drop at (front.now ++ back.now)) }
-{
-    if at >= front.len() {
-        return back[at - front.len()..].to_vec(alloc);
-    }
-    let mut text = front[at..].to_vec(alloc)?;
-    text.extend_from_slice(back)?;
     Ok(text)
 }
