@@ -46,9 +46,7 @@ pub fn record_stream_from<'a>(
         ≡ drop at (record_stream_text kept records.now)) }
 {
     let header = written_header(kept, records, offsets);
-    let front = at.min(HEADER_BYTES) as usize;
-    let rest = &records.joined()[at as usize - front..];
-    Ok((header[front..].to_vec(alloc)?, rest))
+    rest_of_both(alloc, &header, records.joined(), at as usize)
 }
 
 // The text of the header.
@@ -76,4 +74,21 @@ fn first_of_both(
     let mut text = front.to_vec(alloc)?;
     text.extend_from_slice(&back[..back.len().min(count - front.len())])?;
     Ok(text)
+}
+
+// The bytes of two such runs from a place on, of which those of the second are not copied.
+fn rest_of_both<'a>(
+    alloc: Global,
+    front: &[u8],
+    back: &'a [u8],
+    at: usize,
+) -> Result<(Vec<u8>, &'a [u8]), AllocError>
+    requires { at ≤ length front.now + length back.now }
+    ensures { IfOk result
+        (λ runs. runs.0.items ++ runs.1.now ≡ drop at (front.now ++ back.now)) }
+{
+    if at >= front.len() {
+        return Ok((Vec::new(alloc), &back[at - front.len()..]));
+    }
+    Ok((front[at..].to_vec(alloc)?, back))
 }

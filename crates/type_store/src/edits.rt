@@ -30,15 +30,15 @@ use tpi_stream::{
 /// The edits of a commit on an image of which the streams reach so far, where they are to reach as
 /// far as `new` says. Of the PDB stream all but the age is given.
 #[tactic(auto, unfolding(crate::specs::Commit::commit_edits))]
-pub(crate) fn commit_edits(
+pub(crate) fn commit_edits<'a>(
     alloc: Global,
     block_size: u32,
     kept: &KeptNumbers,
     info: &[u8],
     old: &Base,
     new: &Base,
-    cut: &CutRef,
-) -> Result<Vec<Edit>, AllocError>
+    cut: &'a CutRef,
+) -> Result<Vec<Edit<'a>>, AllocError>
     requires size { IsBlockSize block_size }
     requires kept { CanKeep kept.now info.now }
     requires short { length info.now < 2 ^ 32 }
@@ -77,34 +77,34 @@ pub(crate) fn commit_edits(
 }
 
 // All of the PDB stream, with another age.
-fn info_edit(alloc: Global, info: &[u8], age: u32) -> Result<Edit, AllocError>
+fn info_edit<'a>(alloc: Global, info: &[u8], age: u32) -> Result<Edit<'a>, AllocError>
     requires long { 28 ≤ length info.now }
     requires short { length info.now < 2 ^ 32 }
     ensures { IfOk result (λ e. e ≡ all_from 1 (with_age info.now age) 0) }
 {
     let mut text = info.to_vec(alloc)?;
     with_age(&mut text, age);
-    Ok(Edit::new(1, 0, text, info.len() as u32))
+    Ok(Edit::new(1, 0, text, &[], info.len() as u32))
 }
 
 // The records of one space: how far their streams reach, and how far they are to reach.
 #[derive(Drop)]
-struct RecordChange<'a> {
+struct RecordChange<'a, 'b> {
     fresh: bool,
-    old: &'a RecordBase,
-    new: &'a RecordBase,
+    old: &'b RecordBase,
+    new: &'b RecordBase,
     records: &'a RecordList,
 }
 
 // The edits of a stream of records.
 #[tactic(auto, unfolding(crate::specs::Commit::record_edits))]
-fn put_records(
+fn put_records<'a>(
     alloc: Global,
-    edits: &mut Vec<Edit>,
+    edits: &mut Vec<Edit<'a>>,
     block_size: u32,
     stream: u32,
     kept: Kept,
-    change: &RecordChange,
+    change: &RecordChange<'a, '_>,
 ) -> Result<(), AllocError>
     requires size { IsBlockSize block_size }
     requires change { RecordsChange change.now.old.now change.now.new.now change.now.records.now }
@@ -121,13 +121,13 @@ fn put_records(
 }
 
 // Of a stream of records that grew.
-fn put_grown_records(
+fn put_grown_records<'a>(
     alloc: Global,
-    edits: &mut Vec<Edit>,
+    edits: &mut Vec<Edit<'a>>,
     block_size: u32,
     stream: u32,
     kept: Kept,
-    change: &RecordChange,
+    change: &RecordChange<'a, '_>,
 ) -> Result<(), AllocError>
     requires size { IsBlockSize block_size }
     requires change { RecordsChange change.now.old.now change.now.new.now change.now.records.now }
@@ -155,13 +155,13 @@ fn block_start(block_size: u32, place: u32) -> u32
     place / block_size * block_size
 }
 
-fn first_of_records(
+fn first_of_records<'a>(
     alloc: Global,
     block_size: u32,
     stream: u32,
     kept: Kept,
     change: &RecordChange,
-) -> Result<Edit, AllocError>
+) -> Result<Edit<'a>, AllocError>
     requires { RecordsChange change.now.old.now change.now.new.now change.now.records.now }
     ensures { IfOk result (λ e. e ≡ first_block block_size stream
         (record_stream_text kept change.now.records.now)) }
@@ -169,25 +169,25 @@ fn first_of_records(
     let offsets = change.new.offsets();
     let bytes = record_stream_first(alloc, kept, change.records, offsets, block_size)?;
     let len = HEADER_BYTES + change.new.bytes();
-    Ok(Edit::new(stream, 0, bytes, len))
+    Ok(Edit::new(stream, 0, bytes, &[], len))
 }
 
-fn rest_of_records(
+fn rest_of_records<'a>(
     alloc: Global,
     stream: u32,
     kept: Kept,
-    change: &RecordChange,
+    change: &RecordChange<'a, '_>,
     at: u32,
-) -> Result<Edit, AllocError>
+) -> Result<Edit<'a>, AllocError>
     requires change { RecordsChange change.now.old.now change.now.new.now change.now.records.now }
     requires inside { at ≤ HEADER_BYTES + length (joined change.now.records.now) }
     ensures { IfOk result (λ e. e ≡ all_from stream
         (record_stream_text kept change.now.records.now) at) }
 {
     let offsets = change.new.offsets();
-    let bytes = record_stream_from(alloc, kept, change.records, offsets, at)?;
+    let (front, rest) = record_stream_from(alloc, kept, change.records, offsets, at)?;
     let len = HEADER_BYTES + change.new.bytes();
-    Ok(Edit::new(stream, at, bytes, len))
+    Ok(Edit::new(stream, at, front, rest, len))
 }
 
 // The edits of a hash stream.
@@ -214,12 +214,12 @@ fn put_hashes(
     Ok(())
 }
 
-fn rest_of_hashes(
+fn rest_of_hashes<'a>(
     alloc: Global,
     kept: Kept,
     change: &RecordChange,
     at: u32,
-) -> Result<Edit, AllocError>
+) -> Result<Edit<'a>, AllocError>
     requires kept { CanBeKept kept }
     requires change { RecordsChange change.now.old.now change.now.new.now change.now.records.now }
     requires whole { at % KEY_BYTES ≡ 0 }
@@ -230,7 +230,7 @@ fn rest_of_hashes(
     let offsets = change.new.offsets();
     let bytes = hash_text_from(alloc, change.records, kept.buckets, offsets, at)?;
     let len = KEY_BYTES * change.new.count() + offsets.len() as u32;
-    Ok(Edit::new(u32::from(kept.hash_stream), at, bytes, len))
+    Ok(Edit::new(u32::from(kept.hash_stream), at, bytes, &[], len))
 }
 
 // The edits of the stream of names.
@@ -282,30 +282,30 @@ fn put_grown_names(
     Ok(())
 }
 
-fn first_of_names(
+fn first_of_names<'a>(
     alloc: Global,
     block_size: u32,
     stream: u32,
     table: &NamesTable,
-) -> Result<Edit, AllocError>
+) -> Result<Edit<'a>, AllocError>
     requires { block_size ≤ names.HEADER_BYTES + bytes_of table.now.names }
     ensures { IfOk result (λ e. e ≡ first_block block_size stream
         (names_text table.now.version table.now.names)) }
 {
     let bytes = table.write_names_first(alloc, block_size)?;
-    Ok(Edit::new(stream, 0, bytes, table.text_len()))
+    Ok(Edit::new(stream, 0, bytes, &[], table.text_len()))
 }
 
-fn rest_of_names(
+fn rest_of_names<'a>(
     alloc: Global,
     stream: u32,
     table: &NamesTable,
     at: u32,
-) -> Result<Edit, AllocError>
+) -> Result<Edit<'a>, AllocError>
     requires { at ≤ names.HEADER_BYTES + bytes_of table.now.names }
     ensures { IfOk result (λ e. e ≡ all_from stream
         (names_text table.now.version table.now.names) at) }
 {
     let bytes = table.write_names_from(alloc, at)?;
-    Ok(Edit::new(stream, at, bytes, table.text_len()))
+    Ok(Edit::new(stream, at, bytes, &[], table.text_len()))
 }

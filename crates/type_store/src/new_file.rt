@@ -75,7 +75,9 @@ fn no_records(alloc: Global, hash_stream: u16) -> Result<Vec<u8>, AllocError>
     ensures { IfOk result (λ text. text.items ≡ record_stream_text (new_kept hash_stream) []) }
 {
     let records = RecordList::new(alloc);
-    record_stream_from(alloc, new_kept(hash_stream), &records, &[], 0)
+    let (mut text, rest) = record_stream_from(alloc, new_kept(hash_stream), &records, &[], 0)?;
+    text.extend_from_slice(rest)?;
+    Ok(text)
 }
 
 // The numbers that a new file keeps.

@@ -43,13 +43,13 @@ pub(crate) fn cut_of_tables(number: u32, tables: &Tables) -> CutRef
 }
 
 // The edits of a commit, and how far the streams then reach.
-fn edits_on<D: Device>(
+fn edits_on<'a, D: Device>(
     alloc: Global,
     block_size: u32,
     origin: &Origin<D>,
     newest: &CommitCut,
-    cut: &CutRef,
-) -> Result<(Vec<Edit>, Base), AllocError>
+    cut: &'a CutRef,
+) -> Result<(Vec<Edit<'a>>, Base), AllocError>
     requires size { IsBlockSize block_size }
     requires kept { CanKeep origin.now.kept origin.now.info.items }
     requires short { length origin.now.info.items < 2 ^ 32 }
