@@ -14,3 +14,4 @@ pub mod LayoutLoops
 pub mod Outcome
 pub mod Covering
 pub mod NewFile
+pub mod Pieces

@@ -8,7 +8,7 @@ ghost use Rattle.cow_streams.specs.Edits.{edit_at, has_byte, len_after};
 use msf_blocks::Edit;
 
 /// The edit that has byte `at` of a stream, if one has it.
-pub fn edit_at(edits: &[Edit], stream: u32, at: u64) -> Option<&Edit>
+pub fn edit_at<'a, 'b>(edits: &'a [Edit<'b>], stream: u32, at: u64) -> Option<&'a Edit<'b>>
     ensures { option_copied result ≡ edit_at edits.now stream at }
 {
     edits.iter().find(|e| has_byte(e, stream, at))

@@ -3,6 +3,7 @@
 
 ghost use Rattle.std.specs.Prelude.{◌≡◌, ◌≤◌, ◌+◌, ◌*◌, ◌/◌, ◌%◌, ◌^◌, ◌<◌, ◌++◌, false, length, IfOk, OnOk};
 ghost use Rattle.srv_edge.specs.Records.{joined};
+ghost use Rattle.record_table.specs.Buckets.{hashes_of};
 ghost use Rattle.info_stream.specs.Text.{with_age};
 ghost use Rattle.msf_blocks.specs.Blocks.{IsBlockSize};
 ghost use Rattle.names_table.specs.Names.{bytes_of};
@@ -52,12 +53,14 @@ pub(crate) fn commit_edits<'a>(
         old: old.types(),
         new: new.types(),
         records: cut.types().records(),
+        hashes: cut.types().hashes(),
     };
     let items = RecordChange {
         fresh: old.is_fresh(),
         old: old.items(),
         new: new.items(),
         records: cut.items().records(),
+        hashes: cut.items().hashes(),
     };
     let mut edits = Vec::with_capacity(alloc, 9)?;
     edits.push(info_edit(alloc, info, cut.number())?)?;
@@ -94,6 +97,7 @@ struct RecordChange<'a, 'b> {
     old: &'b RecordBase,
     new: &'b RecordBase,
     records: &'a RecordList,
+    hashes: &'b [u32],
 }
 
 // The edits of a stream of records.
@@ -202,6 +206,7 @@ fn put_hashes(
     requires size { IsBlockSize block_size }
     requires kept { CanBeKept kept }
     requires change { RecordsChange change.now.old.now change.now.new.now change.now.records.now }
+    requires hashes { change.now.hashes.now ≡ hashes_of change.now.records.now }
     ensures { OnOk result (edits.new.items ≡ edits.old.items ++ hash_edits block_size
         change.now.fresh change.now.old.now kept change.now.records.now) }
 {
@@ -222,13 +227,21 @@ fn rest_of_hashes<'a>(
 ) -> Result<Edit<'a>, AllocError>
     requires kept { CanBeKept kept }
     requires change { RecordsChange change.now.old.now change.now.new.now change.now.records.now }
+    requires hashes { change.now.hashes.now ≡ hashes_of change.now.records.now }
     requires whole { at % KEY_BYTES ≡ 0 }
     requires inside { at ≤ KEY_BYTES * length change.now.records.now }
     ensures { IfOk result (λ e. e ≡ all_from kept.hash_stream
         (hash_text change.now.records.now kept.buckets) at) }
 {
     let offsets = change.new.offsets();
-    let bytes = hash_text_from(alloc, change.records, kept.buckets, offsets, at)?;
+    let bytes = hash_text_from(
+        alloc,
+        change.records,
+        change.hashes,
+        kept.buckets,
+        offsets,
+        at,
+    )?;
     let len = KEY_BYTES * change.new.count() + offsets.len() as u32;
     Ok(Edit::new(u32::from(kept.hash_stream), at, bytes, &[], len))
 }
