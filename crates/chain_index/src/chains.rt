@@ -112,6 +112,13 @@ impl Chains {
         self.hashes[number as usize]
     }
 
+    /// The hashes of the records, in their order.
+    pub fn hashes(&self) -> &[u32]
+        ensures { result.now ≡ self.now.hashes }
+    {
+        &self.hashes
+    }
+
     /// How many heads there are.
     pub fn heads(&self) -> u32
         ensures { result ≡ heads_for (length self.now.hashes) }

@@ -46,5 +46,6 @@ fn heads_by_count(rt: HostRuntime) -> Result<(), Fail> {
         ),
         (Some(4_094), Some(4_093), None, None)
     );
+    assert_eq!(rt; chains.hashes()[4_096], 4_096 * 4_096);
     Ok(())
 }

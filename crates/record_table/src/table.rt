@@ -161,6 +161,13 @@ impl RecordTable {
         &self.records
     }
 
+    /// The hashes of the records, in their order, which were computed when each was added.
+    pub fn hashes(&self) -> &[u32]
+        ensures { result.now ≡ hashes_of self.now.records }
+    {
+        self.chains.hashes()
+    }
+
     /// How many records there are.
     pub fn len(&self) -> u32
         ensures count { result ≡ length self.now.records }

@@ -8,6 +8,7 @@ use std::alloc::{AllocError, Global};
 use std::marker::Brand;
 use std::sync::ledger::{Blank, Ledger};
 use std::test::Fail;
+use type_hash::of_record;
 
 // A modifier of this type.
 fn modifier(number: u32) -> [u8; 12]
@@ -81,5 +82,6 @@ fn least_of_equal_records(rt: HostRuntime) -> Result<(), Fail> {
     assert_eq!(rt; table.records().len(), 10_000);
     let added = add::<Brand>(&mut table, 4_999, Blank::new(1));
     assert_eq!(rt; (added, table.len()), (Ok(FIRST_INDEX + 10_000), 10_001));
+    assert_eq!(rt; table.hashes().last(), Some(&of_record(&modifier(4_999))));
     Ok(())
 }
