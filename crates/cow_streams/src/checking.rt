@@ -38,6 +38,9 @@ fn is_edit(block_size: u32, directory: &Directory, edits: &[Edit], e: &Edit) -> 
     requires { IsBlockSize block_size }
     ensures { IsTrue result → IsEdit block_size directory.now edits.now e.now }
 {
+    if e.bytes_len() > e.len() as usize {
+        return false;
+    }
     let end = u64::from(e.at()) + e.bytes_len() as u64;
     e.stream() >= 1
         && directory.size(e.stream()).is_some()

@@ -25,7 +25,7 @@ pub fn is_edited(edits: &[Edit], stream: u32, at: u64) -> bool
 fn has_byte(e: &Edit, stream: u32, at: u64) -> bool
     ensures { result ≡ has_byte stream at e.now }
 {
-    e.stream() == stream && u64::from(e.at()) <= at && at < u64::from(e.at()) + e.bytes_len() as u64
+    e.stream() == stream && u64::from(e.at()) <= at && at - u64::from(e.at()) < e.bytes_len() as u64
 }
 
 /// The length after the edits of a stream that had this one.
