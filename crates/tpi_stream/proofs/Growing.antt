@@ -1,11 +1,14 @@
 -- The texts of records, and of more records behind them.
-use Rattle.std.proofs.Common.{◌≡◌, ◌≤◌, ◌<◌, ◌+◌, ◌-◌, ◌*◌, ◌/◌, ◌%◌, ℕ, zero, suc, List, [], ◌∷◌, ◌++◌, Result, Ok, Err, OnOk, length, take, drop, get_or, append_assoc, refl, sym, ap, ◌∙◌, arith}
+use Rattle.std.proofs.Common.{◌≡◌, ◌≤◌, ◌<◌, ◌+◌, ◌-◌, ◌*◌, ◌/◌, ◌%◌, ℕ, zero, suc, List, [], ◌∷◌, ◌++◌, Result, Ok, Err, OnOk, length, map, take, drop, get_or, append_assoc, refl, sym, ap, ◌∙◌, arith}
 use Rattle.std.specs.List.{flat_map, range_with_len}
+use Rattle.byteorder.specs.Endian.{little_bytes}
 use Rattle.std.proofs.lemmas.Grind.{flat_map-append}
-use Rattle.std.proofs.lemmas.List.{get_or-append-add, get_or_append_left, drop-append-le, length-append, length-drop, length-take-le, take-append-drop, take-append-le, drop_all}
+use Rattle.std.proofs.lemmas.List.{get_or-append-add, get_or_append_left, drop-append-le, drop-map, length-append, length-drop, length-take-le, take-append-drop, take-append-le, drop_all}
+use Rattle.std.proofs.lemmas.List.Folds.{flat_map-map}
 use Rattle.std.proofs.lemmas.Nat.{div-add-mod'}
 use Rattle.std.proofs.Math.Seq.{drop-append-add}
 use Rattle.srv_edge.specs.Records.{joined}
+use Rattle.type_hash.specs.Record.{record_hash}
 use Rattle.tpi_stream.specs.declared.header.Kept.{Kept}
 use Rattle.tpi_stream.specs.Hashes.{bucket_text, hash_text, hash_values, index_offsets, offset_between, offset_text, offsets_between, start_at}
 use Rattle.tpi_stream.specs.HeaderText.{header_text}
@@ -132,10 +135,9 @@ rest_of_hash_text buckets records at whole le =
     drop-append-le at (hash_values buckets records) (index_offsets records) (omega (arith, le, length-hash_values buckets records))
     ∙ ap (λ s. s ++ index_offsets records) (ap (λ m. drop m (hash_values buckets records)) n ∙ drop-hash_values buckets records (at / 4))
 
--- all of it
-pub whole_hash_text : (buckets : ℕ) (records : List (List ℕ)) (text hashes : List ℕ) → hashes ≡ hash_values buckets records → text ≡ hashes ++ offsets_between records 0 (length records - 0) → text ≡ hash_text records buckets
-unfolding index_offsets
-whole_hash_text buckets records text hashes is all = all ∙ λ k. is k ++ offsets_between records 0 (none k)
-  where
-    none : length records - 0 ≡ length records
-    none = omega arith
+-- the buckets of the hashes from a position on are those of the records
+pub buckets_of_hashes : (buckets : ℕ) (records : List (List ℕ)) (hashes : List ℕ) (from : ℕ) → hashes ≡ map record_hash records → flat_map (λ h. little_bytes 4 (h % buckets)) (drop from hashes) ≡ hash_values buckets (drop from records)
+unfolding hash_values
+buckets_of_hashes buckets records hashes from is =
+    let put : List ℕ → List ℕ = flat_map (λ h. little_bytes 4 (h % buckets)) in
+    ap (λ hs. put (drop from hs)) is ∙ ap put (drop-map record_hash from records) ∙ flat_map-map (λ h. little_bytes 4 (h % buckets)) record_hash (drop from records)

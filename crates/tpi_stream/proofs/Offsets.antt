@@ -4,7 +4,7 @@ use Rattle.std.specs.Option.{unwrap_or}
 use Rattle.std.specs.List.{flat_map}
 use Rattle.std.proofs.lemmas.List.{append-nil, drop_all, drop_more, length-append, take_more}
 use Rattle.srv_edge.specs.Records.{joined}
-use Rattle.tpi_stream.specs.Hashes.{bucket_text, hash_values, offset_text, offsets_between, start_at}
+use Rattle.tpi_stream.specs.Hashes.{offset_text, offsets_between, start_at}
 use Rattle.tpi_stream.proofs.RecordLists.{length-joined_push}
 
 -- a list up to the next place
@@ -32,16 +32,6 @@ start_most (r ∷ records) zero = omega arith
 start_most (r ∷ records) (suc i) = omega (arith, start_most records i, length-append r (joined (take i records)), length-append r (joined records))
 
 -- ---- what is still to be put
-
--- the buckets of the record at a position, and of those behind it
-pub hashes_next : (buckets : ℕ) (records : List (List ℕ)) (i : ℕ) (r : List ℕ) → slice_get records i ≡ Some r → i < length records
-    → hash_values buckets (drop i records) ≡ bucket_text buckets r ++ hash_values buckets (drop (i + 1) records)
-unfolding hash_values
-hashes_next buckets records i r is lt = ap (flat_map (bucket_text buckets)) (drop_next i records r is lt)
-
-pub hashes_end : (buckets : ℕ) (records : List (List ℕ)) (i : ℕ) → length records ≤ i → hash_values buckets (drop i records) ≡ []
-unfolding hash_values
-hashes_end buckets records i le = ap (flat_map (bucket_text buckets)) (drop_all i records le)
 
 -- the index offset of the record at a position, and of those behind it
 pub offsets_next : (records : List (List ℕ)) (i n : ℕ) → i < n → offsets_between records i (n - i) ≡ offset_text records i ++ offsets_between records (i + 1) (n - (i + 1))

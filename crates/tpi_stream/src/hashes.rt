@@ -1,43 +1,32 @@
-ghost use Rattle.std.specs.Prelude.{◌≡◌, ◌≤◌, ◌<◌, ◌+◌, ◌-◌, ◌*◌, ◌%◌, ◌^◌, ◌++◌, drop, length, take, IfOk, OnOk};
+ghost use Rattle.std.specs.Prelude.{◌≡◌, ◌≤◌, ◌<◌, ◌+◌, ◌-◌, ◌*◌, ◌%◌, ◌^◌, ◌++◌, drop, length, map, take, IfOk, OnOk};
+ghost use Rattle.std.specs.List.{flat_map};
 ghost use Rattle.byteorder.specs.Endian.{little_bytes};
 ghost use Rattle.srv_edge.specs.Records.{joined};
 ghost use Rattle.tpi_stream.specs.declared.header.TheConstants.{FIRST_INDEX, KEY_BYTES};
-ghost use Rattle.tpi_stream.specs.Hashes.{has_offset, hash_text, hash_values, index_offsets, offset_between, offsets_between, start_at};
+ghost use Rattle.type_hash.specs.Record.{record_hash};
+ghost use Rattle.tpi_stream.specs.Hashes.{has_offset, hash_text, index_offsets, offset_between, offsets_between, start_at};
 
 use crate::header::{FIRST_INDEX, KEY_BYTES};
 use byteorder::{ByteOrder, LittleEndian};
 use srv_edge::{RecordList, word};
 use std::alloc::{AllocError, Global};
-use type_hash::of_record;
 
 /// A record in which a multiple of so many bytes is passed has an index offset.
 pub const OFFSET_STEP: u32 = 8192;
 
-/// The text of the hash stream: the bucket of each record, and the index offsets.
-pub fn hash_text(alloc: Global, records: &RecordList, buckets: u32) -> Result<Vec<u8>, AllocError>
-    requires some { 1 ≤ buckets }
-    requires few { length records.now ≤ 2 ^ 23 }
-    ensures { IfOk result (λ text. text.items ≡ hash_text records.now buckets) }
-{
-    // Each index offset but the first stands where a multiple of the step is passed.
-    let most_offsets = records.joined().len() / OFFSET_STEP as usize + 1;
-    let mut text = Vec::with_capacity(alloc, 4 * records.len() as usize + 8 * most_offsets)?;
-    put_hashes(&mut text, records, 0, buckets)?;
-    put_offsets(&mut text, records, 0, 0)?;
-    Ok(text)
-}
-
-/// The same text from a place of the buckets on, where the index offsets are at hand. No record of
-/// a bucket before that place is hashed.
+/// The text of the hash stream from a place of the buckets on: the bucket of each record, and the
+/// index offsets. The hashes of the records and the offsets are at hand: no record is hashed.
 pub fn hash_text_from(
     alloc: Global,
     records: &RecordList,
+    hashes: &[u32],
     buckets: u32,
     offsets: &[u8],
     at: u32,
 ) -> Result<Vec<u8>, AllocError>
     requires some { 1 ≤ buckets }
     requires few { length records.now ≤ 2 ^ 23 }
+    requires hashes { hashes.now ≡ map record_hash records.now }
     requires offsets { offsets.now ≡ index_offsets records.now }
     requires bucket { at % KEY_BYTES ≡ 0 }
     requires inside { at ≤ KEY_BYTES * length records.now }
@@ -45,7 +34,7 @@ pub fn hash_text_from(
 {
     let size = 4 * records.len() as usize - at as usize + offsets.len();
     let mut text = Vec::with_capacity(alloc, size)?;
-    put_hashes(&mut text, records, at / KEY_BYTES, buckets)?;
+    put_hashes(&mut text, hashes, at / KEY_BYTES, buckets)?;
     text.extend_from_slice(offsets)?;
     Ok(text)
 }
@@ -68,23 +57,15 @@ pub fn extend_offsets(
     put_offsets(text, records, from, start)
 }
 
-// The bucket of each record from a position on.
-fn put_hashes(
-    text: &mut Vec<u8>,
-    records: &RecordList,
-    from: u32,
-    buckets: u32,
-) -> Result<(), AllocError>
+// The bucket of each hash from a position on.
+fn put_hashes(text: &mut Vec<u8>, hashes: &[u32], from: u32, buckets: u32) -> Result<(), AllocError>
     requires some { 1 ≤ buckets }
-    requires few { length records.now ≤ 2 ^ 23 }
-    requires from { from ≤ length records.now }
-    ensures { OnOk result
-        (text.new.items ≡ text.old.items ++ hash_values buckets (drop from records.now)) }
+    requires from { from ≤ length hashes.now }
+    ensures { OnOk result (text.new.items ≡ text.old.items
+        ++ flat_map (λ h. little_bytes 4 (h % buckets)) (drop from hashes.now)) }
 {
-    let mut i = from;
-    while let Some(record) = records.get(i) {
-        text.extend_from_slice(&word(of_record(record) % buckets))?;
-        i += 1;
+    for hash in &hashes[from as usize..] {
+        text.extend_from_slice(&word(hash % buckets))?;
     }
     Ok(())
 }

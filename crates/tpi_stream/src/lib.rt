@@ -10,7 +10,7 @@ mod reading;
 mod written;
 
 pub use crate::fault::TpiFault;
-pub use crate::hashes::{OFFSET_STEP, extend_offsets, hash_text, hash_text_from};
+pub use crate::hashes::{OFFSET_STEP, extend_offsets, hash_text_from};
 pub use crate::header::{
     FIRST_INDEX, HEADER_BYTES, Header, KEY_BYTES, Kept, LEAST_BUCKETS, MOST_BUCKETS, VERSION,
     header_bytes, header_with, kept_of,

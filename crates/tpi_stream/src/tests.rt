@@ -1,7 +1,10 @@
+ghost use Rattle.std.specs.Prelude.{◌≤◌, ◌<◌, ◌^◌, length};
+
 use super::*;
 use srv_edge::{Limits, RecordList};
+use std::alloc::{AllocError, Global};
 use std::test::Fail;
-use type_hash::buffer;
+use type_hash::{buffer, of_record};
 
 // A constant of the type 74: the first record of a new file.
 const RECORD: [u8; 12] = [0x0a, 0, 1, 0x10, 0x74, 0, 0, 0, 1, 0, 0xf2, 0xf1];
@@ -12,6 +15,19 @@ const STREAM: [u8; 68] = [
     0xff, 4, 0, 0, 0, 0xff, 0xff, 3, 0, 0, 0, 0, 0, 4, 0, 0, 0, 4, 0, 0, 0, 8, 0, 0, 0, 0x0c, 0, 0,
     0, 0, 0, 0, 0, 0x0a, 0, 1, 0x10, 0x74, 0, 0, 0, 1, 0, 0xf2, 0xf1,
 ];
+
+// The hash stream of this one record.
+fn hash_text_of(alloc: Global, record: &[u8], buckets: u32) -> Result<Vec<u8>, AllocError>
+    requires some { 1 ≤ buckets }
+    requires short { length record.now < 2 ^ 32 }
+{
+    let mut records = RecordList::new(alloc);
+    records.push(record)?;
+    let mut offsets = Vec::new(alloc);
+    extend_offsets(&mut offsets, &records, 0, 0)?;
+    let hashes = [of_record(record)];
+    hash_text_from(alloc, &records, &hashes, buckets, &offsets, 0)
+}
 
 #[test]
 fn first_record(rt: HostRuntime) -> Result<(), Fail> {
@@ -26,14 +42,14 @@ fn first_record(rt: HostRuntime) -> Result<(), Fail> {
     assert_eq!(rt; h.buckets, 0x3ffff);
     assert_eq!(rt; records.list.len(), 1);
     assert_eq!(rt; records.list.joined(), RECORD.as_slice());
-    let text = hash_text(rt.alloc(), &records.list, 0x3ffff)?;
+    let text = hash_text_of(rt.alloc(), &RECORD, 0x3ffff)?;
     assert_eq!(rt; text.len(), 12);
     assert_eq!(rt; text[..4], (buffer(&RECORD) % 0x3ffff).to_le_bytes()[..]);
     assert_eq!(rt; text[4..], [0, 0x10, 0, 0, 0, 0, 0, 0][..]);
     Ok(())
 }
 
-fn fault_of(alloc: std::alloc::Global, stream: &[u8], limits: Limits) -> Option<TpiFault> {
+fn fault_of(alloc: Global, stream: &[u8], limits: Limits) -> Option<TpiFault> {
     match read_records(alloc, stream, limits) {
         Ok(_) => None,
         Err(fault) => Some(fault),

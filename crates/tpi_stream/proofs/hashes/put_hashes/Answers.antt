@@ -1,31 +1,22 @@
-use Rattle.std.proofs.Common.{◌≡◌, ◌≤◌, ◌+◌, ◌%◌, ◌++◌, length, drop, refl, ap, ◌∙◌, arith}
+use Rattle.std.proofs.Common.{◌≡◌, ◌<◌, ◌-◌, ◌%◌, ◌++◌, ℕ, List, length, drop, take, sym, ap, ◌∙◌, arith}
+use Rattle.std.specs.List.{flat_map, slice_index}
+use Rattle.std.proofs.lemmas.List.{flat_map_more, length-drop, take_more}
+use Rattle.std.proofs.Math.Seq.{take-length}
 use Rattle.byteorder.specs.Endian.{little_bytes}
 use Rattle.srv_edge.specs.Frames.{word_bytes}
-use Rattle.tpi_stream.specs.Hashes.{bucket_text, hash_values}
-use Rattle.tpi_stream.proofs.Offsets.{hashes_end, hashes_next, put_all, put_one}
 use Rattle.tpi_stream.proofs.hashes.put_hashes.Goals as goal
 
-pub loop-record-init : goal.loop-record-init
-loop-record-init c = (refl, c.requires.from)
-
-pub loop-record-preserved : goal.loop-record-preserved
+pub loop-hash-preserved : goal.loop-hash-preserved
 unfolding word_bytes
-loop-record-preserved c =
-    let records = c.args.records.now in
+loop-hash-preserved c =
     let buckets = c.args.buckets in
-    let i = c.loop-record.i in
-    let r = c.in-Some.record.now in
-    let now = c.loop-record.text.items in
-    let lt = c.in-Some.ensures.some.0 refl in
-    let put : c.extend_from_slice.new.self.items ≡ now ++ bucket_text buckets r = c.in_ok-extend_from_slice.ensures.items ∙ ap (λ xs. now ++ xs) (c.word.ensures ∙ ap (λ h. little_bytes 4 (h % buckets)) c.of_record.ensures) in
-    let rest = hash_values buckets (drop (i + 1) records) in
-    let one = put_one c.args.text.now.items (hash_values buckets (drop c.args.from records)) now (bucket_text buckets r) rest (hash_values buckets (drop i records)) c.loop-record.invariant.0
-    (hashes_next buckets records i r c.in-Some.ensures.record lt) in
-    (ap (λ xs. xs ++ rest) put ∙ one, omega (arith, lt))
-
-pub returns : goal.returns
-returns c =
-    let records = c.args.records.now in
-    let i = c.loop-record.i in
-    let end : length records ≤ i = grind (arith, c.in_default.ensures.some.1) in
-    put_all c.args.text.now.items (hash_values c.args.buckets (drop c.args.from records)) c.loop-record.text.items (hash_values c.args.buckets (drop i records)) c.loop-record.invariant.0 (hashes_end c.args.buckets records i end)
+    let hashes = drop c.args.from c.args.hashes.now in
+    let i = c.loop-hash.hash-index in
+    let old = c.args.text.now.items in
+    let whole : take (length c.args.hashes.now - c.args.from) hashes ≡ hashes = ap (λ n. take n hashes) (sym (length-drop c.args.from c.args.hashes.now)) ∙ take-length hashes in
+    let lt : i < length hashes = omega (arith, c.loop-hash-test.true, ap length whole) in
+    let put : List ℕ → List ℕ = λ hs. old ++ flat_map (λ h. little_bytes 4 (h % buckets)) hs in
+    c.in_ok-extend_from_slice.ensures.items ∙ (λ k. c.loop-hash.invariant k ++ c.word.ensures k)
+    ∙ ap (λ (hs : List ℕ). put (take i hashes) ++ little_bytes 4 (slice_index hs i % buckets)) whole
+    ∙ flat_map_more (λ h. little_bytes 4 (h % buckets)) old (take i hashes) (slice_index hashes i)
+    ∙ ap put (sym (take_more hashes i 0 lt))

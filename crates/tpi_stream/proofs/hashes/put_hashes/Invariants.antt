@@ -1,9 +1,7 @@
-use Rattle.std.proofs.Common.{◌≡◌, ◌≤◌, ◌-◌, ◌++◌, length, drop}
-use Rattle.tpi_stream.specs.Hashes.{hash_values}
+use Rattle.std.proofs.Common.{◌≡◌, ◌%◌, ◌++◌, drop, take}
+use Rattle.std.specs.List.{flat_map}
+use Rattle.byteorder.specs.Endian.{little_bytes}
 use Rattle.tpi_stream.proofs.hashes.put_hashes.Given as goal
 
-abbrev pub invariant-loop-record : goal.invariant-loop-record
-invariant-loop-record l = (l.text.items ++ hash_values l.buckets (drop l.i l.records) ≡ l.fn.text.items ++ hash_values l.buckets (drop l.from l.records)) × (l.i ≤ length l.records)
-
-abbrev pub decreases-loop-record : goal.decreases-loop-record
-decreases-loop-record l = length l.records - l.i
+abbrev pub invariant-loop-hash : goal.invariant-loop-hash
+invariant-loop-hash l = l.text.items ≡ l.fn.text.items ++ flat_map (λ h. little_bytes 4 (h % l.fn.buckets)) (take l.hash-index (drop l.from l.hashes))
