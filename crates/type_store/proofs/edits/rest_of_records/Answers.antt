@@ -9,4 +9,4 @@ returns c =
     let text = record_stream_text c.args.kept change.records.now in
     let len = record_len c.args.kept change.old.now change.new.now change.records.now c.requires.change in
     let n : 56 + c.bytes-len.result ≡ length text = omega (arith, len, c.bytes-len.ensures) in
-    rest_is c.new.result c.args.stream c.args.at (56 + c.bytes-len.result) c.in_ok-bytes.bytes.items text c.new.ensures c.in_ok-bytes.ensures n
+    rest_is c.new.result c.args.stream c.args.at (56 + c.bytes-len.result) _ text c.new.ensures c.in_ok-front.ensures n
