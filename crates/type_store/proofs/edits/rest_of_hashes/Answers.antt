@@ -1,4 +1,5 @@
 use Rattle.std.proofs.Common.{◌≡◌, ◌+◌, ◌*◌, length, ap, ◌∙◌, arith}
+use Rattle.std.proofs.lemmas.List.{append-nil}
 use Rattle.tpi_stream.specs.Hashes.{hash_text}
 use Rattle.type_store.proofs.Building.{hash_len, hash_short}
 use Rattle.type_store.proofs.edits.rest_of_hashes.Goals as goal
@@ -18,4 +19,4 @@ returns c =
     let change = c.args.change.now in
     let len = hash_len c.args.kept.buckets change.old.now change.new.now change.records.now c.requires.change in
     let n : 4 * c.count.result + length c.offsets-offsets.result.now ≡ length (hash_text change.records.now c.args.kept.buckets) = omega (arith, len, c.count.ensures, ap length c.offsets-offsets.ensures) in
-    c.new.ensures ∙ λ i. record { stream = c.from.ensures i; at = c.args.at; bytes = c.in_ok-bytes.ensures i; len = n i }
+    c.new.ensures ∙ λ i. record { stream = c.from.ensures i; at = c.args.at; bytes = (append-nil c.in_ok-bytes.bytes.items ∙ c.in_ok-bytes.ensures) i; len = n i }
