@@ -1,8 +1,7 @@
 -- The hash stream, one record at a time.
-use Rattle.std.proofs.Common.{◌≡◌, ◌≤◌, ◌<◌, ◌+◌, ◌-◌, ℕ, zero, suc, List, [], ◌∷◌, ◌++◌, Some, get_or, slice_get, length, take, drop, append_assoc, refl, sym, ap, ◌∙◌, arith}
+use Rattle.std.proofs.Common.{◌≡◌, ◌≤◌, ◌<◌, ◌+◌, ◌-◌, ℕ, zero, suc, List, [], ◌∷◌, ◌++◌, Some, get_or, slice_get, length, take, append_assoc, refl, sym, ap, ◌∙◌, arith}
 use Rattle.std.specs.Option.{unwrap_or}
-use Rattle.std.specs.List.{flat_map}
-use Rattle.std.proofs.lemmas.List.{append-nil, drop_all, drop_more, length-append, take_more}
+use Rattle.std.proofs.lemmas.List.{append-nil, length-append, take_more}
 use Rattle.srv_edge.specs.Records.{joined}
 use Rattle.tpi_stream.specs.Hashes.{offset_text, offsets_between, start_at}
 use Rattle.tpi_stream.proofs.RecordLists.{length-joined_push}
@@ -16,9 +15,6 @@ get_is (suc i) (y ∷ xs) x is = get_is i xs x is
 
 take_next : {A : Type 0} (i : ℕ) (xs : List A) (x : A) → slice_get xs i ≡ Some x → i < length xs → take (i + 1) xs ≡ take i xs ++ x ∷ []
 take_next i xs x is lt = take_more xs i x lt ∙ ap (λ y. take i xs ++ y ∷ []) (get_is i xs x is)
-
-drop_next : {A : Type 0} (i : ℕ) (xs : List A) (x : A) → slice_get xs i ≡ Some x → i < length xs → drop i xs ≡ x ∷ drop (i + 1) xs
-drop_next i xs x is lt = drop_more xs i x lt ∙ ap (λ y. y ∷ drop (i + 1) xs) (get_is i xs x is)
 
 -- where the next record begins
 pub start_next : (records : List (List ℕ)) (i : ℕ) (r : List ℕ) → slice_get records i ≡ Some r → i < length records → start_at records (i + 1) ≡ start_at records i + length r
