@@ -13,8 +13,6 @@ mod gets;
 mod hub;
 mod places;
 mod state;
-#[cfg(test)]
-mod tests;
 mod turns;
 mod under_way;
 mod value;

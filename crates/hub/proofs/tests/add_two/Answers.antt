@@ -1,5 +1,0 @@
-use Rattle.hub.proofs.Finishing.{ended_added}
-use Rattle.hub.proofs.tests.add_two.Goals as goal
-
-pub returns : goal.returns
-returns g c = record { free = (c.add_type-2.ensures.idle, ended_added c.add_type-2.ensures.reply (ended_added c.add_type.ensures.reply c.requires.free.1)) }
